@@ -1,0 +1,5 @@
+pub mod ExclusiveOr
+pub mod Numbers
+pub mod Parts
+pub mod Signed
+pub mod Determined

@@ -1,0 +1,62 @@
+-- Parts of a list: put in the middle, written over the front. Assumes nothing.
+use Prim.Native.Nat.{ℕ, zero, suc, _+_, _-_, _*_, _≤_, _<_}
+use mathlib.Core.Path.{_≡_, refl, sym, ap, ap₂, _∙_}
+use mathlib.Core.List.{List, [], _∷_, _++_, append-assoc, append-nil}
+use native.Mathlib.Omega.{arith}
+use native.Mathlib.Nat.{zero-add, suc-add}
+use lib.ListN.{length, getD, set, take, drop, length-append, length-drop, length-take, drop-of-length-le, List·getD-append}
+use lib.Seq.{take-at, drop-at, take-nil, drop-nil, drop-append-add, drop-drop, drop-cons, set-at, append-snoc, length-take-le, getD-take, getD-drop, getD-append-add}
+use Rattle.octets.specs.Parts.{over, put, part}
+
+pub drop-take : (a n : ℕ) (l : List ℕ) → drop a (take (a + n) l) ≡ take n (drop a l)
+drop-take zero n l = ap (λ k. take k l) (zero-add n)
+drop-take (suc a) n [] = ap (drop (suc a)) (take-nil (suc a + n)) ∙ sym (take-nil n)
+drop-take (suc a) n (x ∷ l) = ap (λ k. drop (suc a) (take k (x ∷ l))) (suc-add a n) ∙ drop-take a n l
+
+-- what a lent part leaves, as a put
+pub mid-put : (a k : ℕ) (s ys : List ℕ) → length ys ≡ k → take a s ++ (ys ++ drop k (drop a s)) ≡ put a ys s
+mid-put a k s ys e = ap (λ r. take a s ++ (ys ++ r)) (drop-drop k a s ∙ ap (λ n. drop (a + n) s) (sym e))
+
+pub length-put : (a : ℕ) (ys s : List ℕ) → a + length ys ≤ length s → length (put a ys s) ≡ length s
+length-put a ys s l =
+    omega (arith, length-append (take a s) (ys ++ drop (a + length ys) s), length-append ys (drop (a + length ys) s), length-take-le a s (omega arith), length-drop (a + length ys) s)
+
+-- the next bytes of what is written over the front
+pub over-next : (a b s : List ℕ) (p : ℕ) → length a ≡ p → put p b (over a s) ≡ over (a ++ b) s
+over-next a b s p e =
+    ap₂ (λ x y. x ++ (b ++ y)) (take-at a (drop (length a) s) p e)
+    (ap (λ n. drop (n + length b) (over a s)) (sym e) ∙ drop-append-add a (drop (length a) s) (length b) ∙ drop-drop (length b) (length a) s)
+    ∙ sym (append-assoc a b (drop (length a + length b) s))
+    ∙ ap (λ n. (a ++ b) ++ drop n s) (sym (length-append a b))
+
+pub over-put : (a b s t u : List ℕ) (p : ℕ) → t ≡ over a s → length a ≡ p → u ≡ put p b t → u ≡ over (a ++ b) s
+over-put a b s t u p e l q = q ∙ ap (put p b) e ∙ over-next a b s p l
+
+pub over-set : (a s : List ℕ) (p v : ℕ) → length a ≡ p → p < length s → set (over a s) p v ≡ over (a ++ (v ∷ [])) s
+over-set a s p v e l =
+    let d : drop (length a) s ≡ getD s (length a) 0 ∷ drop (suc (length a)) s = drop-cons s (length a) 0 (omega arith) in
+    let n : suc (length a) ≡ length (a ++ (v ∷ [])) = omega (arith, length-append a (v ∷ [])) in
+    ap (λ r. set (a ++ r) p v) d ∙ set-at a (getD s (length a) 0) (drop (suc (length a)) s) v p e
+    ∙ sym (append-snoc a v (drop (suc (length a)) s)) ∙ ap (λ k. (a ++ (v ∷ [])) ++ drop k s) n
+
+pub length-over : (a s : List ℕ) → length a ≤ length s → length (over a s) ≡ length s
+length-over a s l = omega (arith, length-append a (drop (length a) s), length-drop (length a) s)
+
+pub over-all : (a s : List ℕ) → length a ≡ length s → over a s ≡ a
+over-all a s e = ap (λ r. a ++ r) (drop-of-length-le s {i = length a} (omega arith)) ∙ append-nil a
+
+pub part-length : (s : List ℕ) (at k : ℕ) → at + k ≤ length s → length (part at k s) ≡ k
+part-length s at k l = length-take-le k (drop at s) (omega (arith, length-drop at s))
+
+-- what stands before and behind what was put
+pub put-before : (a i : ℕ) (ys s : List ℕ) → a ≤ length s → i < a → getD (put a ys s) i 0 ≡ getD s i 0
+put-before a i ys s l h =
+    List·getD-append (take a s) (ys ++ drop (a + length ys) s) 0 i (omega (arith, length-take-le a s l)) ∙ getD-take a s i 0 h
+
+pub put-behind : (a i : ℕ) (ys s : List ℕ) → a ≤ length s → a + length ys ≤ i → getD (put a ys s) i 0 ≡ getD s i 0
+put-behind a i ys s l h =
+    let k = i - (a + length ys) in
+    let z : length (take a s) + (length ys + k) ≡ i = omega (arith, length-take-le a s l) in
+    let y : a + length ys + k ≡ i = omega arith in
+    let r = drop (a + length ys) s in
+    ap (λ n. getD (put a ys s) n 0) (sym z) ∙ getD-append-add (take a s) (ys ++ r) (length ys + k) 0 ∙ getD-append-add ys r k 0 ∙ getD-drop (a + length ys) s k 0 ∙ ap (λ n. getD s n 0) y

@@ -1,0 +1,176 @@
+// Bytes: the exclusive-or checksum, numbers most significant byte first, two's complement, copies.
+// Every function here takes all inputs; what each answers is a definition of specs/.
+ghost use mathlib.Core.Path.{_≡_};
+ghost use Prim.Native.Nat.{ℕ, _+_, _*_, _<_, _≤_, _%_, _^_};
+ghost use lib.IntN.{negsuc};
+ghost use lib.ListN.{length, take, drop, replicate};
+ghost use lib.Signed.{mag};
+ghost use Rattle.octets.specs.Begins.{fit, begins};
+ghost use Rattle.octets.specs.Checksum.{checksumOf};
+ghost use Rattle.octets.specs.Numbers.{number, bytesOf};
+ghost use Rattle.octets.specs.Parts.{over};
+ghost use Rattle.octets.specs.Signed.{half, signedOf, rawOf};
+
+// How a slice begins: with all of a string, with a part of it and nothing more yet, or with a byte that contradicts it.
+pub enum Fit {
+    Whole,
+    Part,
+    Bad,
+}
+
+// The exclusive or of every byte.
+pub fn checksum(s: &[u8]) -> u8
+    ensures { λ r. ⌜ r ≡ checksumOf (now (s .entry)) ⌝ }
+{
+    let mut a: u8 = 0;
+    let mut i = 0;
+    while i < s.len() {
+        a = a ^ s[i];
+        i += 1;
+    }
+    a
+}
+
+// ---- how a slice begins
+
+// How s begins, held against t.
+pub fn fits(t: &[u8], s: &[u8]) -> Fit
+    ensures { λ r. ⌜ r ≡ fit (now (t .entry)) (now (s .entry)) ⌝ }
+{
+    let mut i = 0;
+    while i < t.len() {
+        if s.len() <= i {
+            return Fit::Part;
+        }
+        if s[i] != t[i] {
+            return Fit::Bad;
+        }
+        i += 1;
+    }
+    Fit::Whole
+}
+
+// Whether s begins with all of t.
+pub fn starts(t: &[u8], s: &[u8]) -> bool
+    ensures { λ r. ⌜ r ≡ begins (now (t .entry)) (now (s .entry)) ⌝ }
+{
+    let f = fits(t, s);
+    match f {
+        Fit::Whole => true,
+        Fit::Part => false,
+        Fit::Bad => false,
+    }
+}
+
+// ---- numbers, most significant byte first
+
+fn wide(x: u8) -> u64
+    ensures { λ r. ⌜ (r ≡ x) × (r < 256) ⌝ }
+{
+    x as u64
+}
+
+// The number that bytes stand for, as far as 64 bits hold it: the whole of it for eight bytes or fewer.
+pub fn number_of(s: &[u8]) -> u64
+    ensures { λ r. ⌜ r ≡ number (now (s .entry)) % 2 ^ 64 ⌝ }
+{
+    let mut x: u64 = 0;
+    let mut i = 0;
+    while i < s.len() {
+        x = x % 72057594037927936 * 256 + wide(s[i]);
+        i += 1;
+    }
+    x
+}
+
+// The bytes of x, as many as s has: the lowest ones, where x needs more.
+pub fn put_number(s: &mut [u8], x: u64)
+    ensures { λ _. ⌜ now (s .exit) ≡ bytesOf (length (now (s .entry))) x ⌝ }
+{
+    let mut y = x;
+    let mut i = s.len();
+    while 0 < i {
+        i -= 1;
+        s[i] = (y % 256) as u8;
+        y = y / 256;
+    }
+}
+
+// ---- two's complement
+
+// -(k + 1).
+fn below_zero(k: u32) -> i32
+    requires { ⌜ k < 2147483648 ⌝ }
+    ensures { λ r. ⌜ r ≡ negsuc k ⌝ }
+{
+    -1 - (k as i32)
+}
+
+// z itself where it is not negative, and k for -(k + 1).
+fn magnitude(z: i32) -> u32
+    ensures { λ r. ⌜ r ≡ mag z ⌝ }
+{
+    if z >= 0 { z as u32 } else { (-1 - z) as u32 }
+}
+
+// The number that `raw` stands for in a field of which half the numbers are below `half`.
+fn signed_within(raw: u32, half: u32) -> i32
+    requires { ⌜ (raw < half * 2) × (half ≤ 2147483648) ⌝ }
+    ensures { λ r. ⌜ r ≡ signedOf half raw ⌝ }
+{
+    if raw < half {
+        raw as i32
+    } else {
+        below_zero(half - 1 - (raw - half))
+    }
+}
+
+// What such a field holds for z.
+fn raw_within(z: i32, half: u32) -> u32
+    requires { ⌜ (mag z < half) × (half ≤ 2147483648) ⌝ }
+    ensures { λ r. ⌜ r ≡ rawOf half z ⌝ }
+{
+    let m = magnitude(z);
+    if z >= 0 { m } else { half - 1 - m + half }
+}
+
+// The number that the bits of a field of 32 bits stand for: every u32 is such a field.
+pub fn signed_of(raw: u32) -> i32
+    ensures { λ r. ⌜ r ≡ signedOf (half 32) raw ⌝ }
+{
+    signed_within(raw, 2147483648)
+}
+
+// The bits of a number in a field of 32 bits: every i32 has them.
+pub fn raw_of(z: i32) -> u32
+    ensures { λ r. ⌜ r ≡ rawOf (half 32) z ⌝ }
+{
+    raw_within(z, 2147483648)
+}
+
+// ---- copies
+
+// Zeros in every place.
+pub fn clear(s: &mut [u8])
+    ensures { λ _. ⌜ now (s .exit) ≡ replicate (length (now (s .entry))) 0 ⌝ }
+{
+    let mut i = 0;
+    while i < s.len() {
+        s[i] = 0;
+        i += 1;
+    }
+}
+
+// As much of `from` as `to` has room for, at the front of `to`.
+pub fn copy(from: &[u8], to: &mut [u8])
+    ensures { λ _. ⌜ now (to .exit) ≡ over (take (length (now (to .entry))) (now (from .entry))) (now (to .entry)) ⌝ }
+{
+    let mut i = 0;
+    while i < from.len() {
+        if to.len() <= i {
+            return;
+        }
+        to[i] = from[i];
+        i += 1;
+    }
+}

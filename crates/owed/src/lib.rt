@@ -1,0 +1,1 @@
+// What a public contract owes: the definitions stand in specs/. No code.
