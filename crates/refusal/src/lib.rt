@@ -1,0 +1,50 @@
+// What is refused, by the numbers of document 01. Every entry of the project answers with one of these or with what it was asked for.
+ghost use mathlib.Core.Path.{_≡_};
+ghost use Rattle.refusal.specs.Numbers.{numberOf};
+
+pub enum Refusal {
+    // Fewer than 15 bytes.
+    TooShort,
+    // The first four bytes are neither sync string.
+    NoSync,
+    // The number of bytes is not the one that form and N require.
+    WrongLength,
+    // The checksum differs.
+    WrongChecksum,
+    // The observation index is N or more.
+    NoObservation,
+    // The output has fewer bytes than the message needs.
+    NoRoom,
+    // Converting: not of the form converted from, or, to the old form, TYPE is not 0.
+    OtherForm,
+    // The stream reader's window or output has fewer than 6,136 bytes.
+    SmallBuffer,
+    // A reader state that no reader leaves.
+    BadState,
+    // A feed after the end was announced.
+    Ended,
+    // The stream would pass 2^48 bytes.
+    TooMuch,
+    // The start is past the end of the slice.
+    PastEnd,
+}
+
+// The refusal's number in document 01.
+pub fn number(refusal: Refusal) -> u64
+    ensures { λ r. ⌜ r ≡ numberOf refusal ⌝ }
+{
+    match refusal {
+        Refusal::TooShort => 1,
+        Refusal::NoSync => 2,
+        Refusal::WrongLength => 3,
+        Refusal::WrongChecksum => 4,
+        Refusal::NoObservation => 5,
+        Refusal::NoRoom => 6,
+        Refusal::OtherForm => 7,
+        Refusal::SmallBuffer => 8,
+        Refusal::BadState => 9,
+        Refusal::Ended => 10,
+        Refusal::TooMuch => 11,
+        Refusal::PastEnd => 12,
+    }
+}
