@@ -21,29 +21,45 @@ pub length-put : (a : ℕ) (ys s : List ℕ) → a + length ys ≤ length s → 
 length-put a ys s l =
     omega (arith, length-append (take a s) (ys ++ drop (a + length ys) s), length-append ys (drop (a + length ys) s), length-take-le a s (omega arith), length-drop (a + length ys) s)
 
--- the next bytes of what is written over the front
-pub over-next : (a b s : List ℕ) (p : ℕ) → length a ≡ p → put p b (over a s) ≡ over (a ++ b) s
+-- the next bytes behind what is written over the front
+over-next : (a b s : List ℕ) (p : ℕ) → length a ≡ p → put p b (over a s) ≡ over (a ++ b) s
 over-next a b s p e =
     ap₂ (λ x y. x ++ (b ++ y)) (take-at a (drop (length a) s) p e)
     (ap (λ n. drop (n + length b) (over a s)) (sym e) ∙ drop-append-add a (drop (length a) s) (length b) ∙ drop-drop (length b) (length a) s)
     ∙ sym (append-assoc a b (drop (length a + length b) s))
     ∙ ap (λ n. (a ++ b) ++ drop n s) (sym (length-append a b))
 
-pub over-put : (a b s t u : List ℕ) (p : ℕ) → t ≡ over a s → length a ≡ p → u ≡ put p b t → u ≡ over (a ++ b) s
-over-put a b s t u p e l q = q ∙ ap (put p b) e ∙ over-next a b s p l
+-- `t` is `s` with the p bytes of `a` written over its front: what fields that are written one behind the other come to
+pub record Laid (s a t : List ℕ) (p : ℕ) : Type 0 where
+  pub is : t ≡ over a s
+  pub long : length a ≡ p
 
-pub over-set : (a s : List ℕ) (p v : ℕ) → length a ≡ p → p < length s → set (over a s) p v ≡ over (a ++ (v ∷ [])) s
-over-set a s p v e l =
-    let d : drop (length a) s ≡ getD s (length a) 0 ∷ drop (suc (length a)) s = drop-cons s (length a) 0 (omega arith) in
+pub laid-none : (s : List ℕ) → Laid s [] s 0
+laid-none s = record { is = refl; long = refl }
+
+pub laid-next : {s a t : List ℕ} {p : ℕ} → Laid s a t p → (x u : List ℕ) (k : ℕ) → length x ≡ k → u ≡ put p x t → Laid s (a ++ x) u (p + k)
+laid-next {s} {a} {t} {p} l x u k e q =
+    record { is = q ∙ ap (put p x) (l .is) ∙ over-next a x s p (l .long); long = omega (arith, length-append a x, l .long) }
+
+pub laid-set : {s a t : List ℕ} {p : ℕ} → Laid s a t p → (v : ℕ) → p < length s → Laid s (a ++ (v ∷ [])) (set t p v) (p + 1)
+laid-set {s} {a} {t} {p} l v h =
+    let d : drop (length a) s ≡ getD s (length a) 0 ∷ drop (suc (length a)) s = drop-cons s (length a) 0 (omega (arith, l .long)) in
     let n : suc (length a) ≡ length (a ++ (v ∷ [])) = omega (arith, length-append a (v ∷ [])) in
-    ap (λ r. set (a ++ r) p v) d ∙ set-at a (getD s (length a) 0) (drop (suc (length a)) s) v p e
-    ∙ sym (append-snoc a v (drop (suc (length a)) s)) ∙ ap (λ k. (a ++ (v ∷ [])) ++ drop k s) n
-
-pub length-over : (a s : List ℕ) → length a ≤ length s → length (over a s) ≡ length s
-length-over a s l = omega (arith, length-append a (drop (length a) s), length-drop (length a) s)
+    record {
+      is = ap (λ r. set r p v) (l .is ∙ ap (λ r. a ++ r) d) ∙ set-at a (getD s (length a) 0) (drop (suc (length a)) s) v p (l .long)
+          ∙ sym (append-snoc a v (drop (suc (length a)) s)) ∙ ap (λ k. (a ++ (v ∷ [])) ++ drop k s) n;
+      long = omega (arith, length-append a (v ∷ []), l .long);
+    }
 
 pub over-all : (a s : List ℕ) → length a ≡ length s → over a s ≡ a
 over-all a s e = ap (λ r. a ++ r) (drop-of-length-le s {i = length a} (omega arith)) ∙ append-nil a
+
+-- as many bytes as there are: nothing of the old ones is left
+pub laid-all : {s a t : List ℕ} {p : ℕ} → Laid s a t p → length s ≡ p → t ≡ a
+laid-all {s} {a} l e = l .is ∙ over-all a s (l .long ∙ sym e)
+
+pub length-over : (a s : List ℕ) → length a ≤ length s → length (over a s) ≡ length s
+length-over a s l = omega (arith, length-append a (drop (length a) s), length-drop (length a) s)
 
 pub part-length : (s : List ℕ) (at k : ℕ) → at + k ≤ length s → length (part at k s) ≡ k
 part-length s at k l = length-take-le k (drop at s) (omega (arith, length-drop at s))
