@@ -1,6 +1,6 @@
 // Two kinds of time that must not be mixed: lock counts, 500 a second, and milliseconds. One conversion leads from the first to the second.
 ghost use mathlib.Core.Path.{_≡_};
-ghost use Rattle.units.specs.Units.{lockOf, millisOf, lockMillis, sumOf};
+ghost use Rattle.units.specs.Units.{lockOf, millisOf, countIn, millisIn, lockMillis, sumOf};
 
 // LOCKTIME as a message carries it. The field is private, so that a count is never taken for a time by accident.
 pub struct LockCount(u32);
@@ -16,7 +16,7 @@ impl LockCount {
     }
 
     pub fn count(self) -> u32
-        ensures { λ r. ⌜ r ≡ self .0 ⌝ }
+        ensures { λ r. ⌜ r ≡ countIn self ⌝ }
     {
         self.0
     }
@@ -30,7 +30,7 @@ impl Millis {
     }
 
     pub fn number(self) -> u64
-        ensures { λ r. ⌜ r ≡ self .0 ⌝ }
+        ensures { λ r. ⌜ r ≡ millisIn self ⌝ }
     {
         self.0
     }

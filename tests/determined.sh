@@ -1,0 +1,23 @@
+#!/bin/sh
+# Every public function of a library has its theorem NAME-determined in its own crate's proofs/Determined.antt, stated of that function's own contract,
+# or a line `CRATE::NAME: why` under the exceptions of docs/PROMISES.md. This reads text only: that the theorems hold is rt's to say.
+set -u
+root=$(cd "$(dirname "$0")/.." && pwd -P)
+cd "$root" || exit 2
+failed=0 found=0
+for crate in $(sed 's/#.*//; s/:.*//' crates.txt); do
+    [ -f "crates/$crate/src/lib.rt" ] || continue
+    laws=crates/$crate/proofs/Determined.antt
+    for name in $(sed -n 's/^ *pub \(extern "C" \)\{0,1\}fn \([a-z0-9_]*\).*/\2/p' "crates/$crate"/src/*.rt); do
+        law=$(printf %s "$name" | tr _ -)-determined
+        if grep -Eq "^pub $law : Determined $crate\.([A-Za-z_]+\.)*$name\.ended $crate\.([A-Za-z_]+\.)*$name\.Reads\.Learnt$" "$laws" 2>/dev/null; then
+            found=$((found + 1))
+        elif ! grep -q "^- \`$crate::$name\`: " docs/PROMISES.md; then
+            echo "determined: $crate::$name has no theorem $law and no exception"
+            failed=1
+        fi
+    done
+done
+[ "$found" -gt 0 ] || failed=1
+echo "determined: $found public functions, each with its theorem"
+exit $failed
