@@ -1,0 +1,5 @@
+pub mod ClaimSteps
+pub mod Settled
+pub mod Bounds
+pub mod Waiting
+pub mod Determined
