@@ -24,12 +24,12 @@ use Rattle.front.specs.Look.{Look, unsettled, gap, message, judged, look
 abbrev pub most : ℕ
 most = 16 + 24 * cap
 
-abbrev FitFact : List ℕ → List ℕ → Fit → Type 0
+abbrev pub FitFact : List ℕ → List ℕ → Fit → Type 0
 FitFact t xs Whole = Unit
 FitFact t xs Part = length xs < length t
 FitFact t xs Bad = Unit
 
-fit-fact : (t xs : List ℕ) → FitFact t xs (fit t xs)
+pub fit-fact : (t xs : List ℕ) → FitFact t xs (fit t xs)
 unfolding fit
 fit-fact [] xs = tt
 fit-fact (t ∷ ts) [] = omega arith

@@ -2,4 +2,5 @@ pub mod ClaimSteps
 pub mod Settled
 pub mod Bounds
 pub mod Waiting
+pub mod Checked
 pub mod Determined

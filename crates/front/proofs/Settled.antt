@@ -20,7 +20,7 @@ use Rattle.front.specs.declared.Claim.the-variants.{Nothing, AtLeast, Lo
 use Rattle.front.specs.Claim.{cap, counted, claimBy, claim}
 use Rattle.front.specs.Look.{Look, unsettled, gap, message, judged, lookBy, look}
 
-abbrev keepFit : Fit → Fit → Fit
+abbrev pub keepFit : Fit → Fit → Fit
 keepFit Whole d = Whole
 keepFit Part d = d
 keepFit Bad d = Bad
