@@ -1,0 +1,73 @@
+-- What each step of the walk comes to, in the definitions' words. Assumes nothing.
+use Prim.Native.Nat.{ℕ, zero, suc, _+_, _-_, _≤_, _<_}
+use mathlib.Core.Path.{_≡_, refl, sym, ap, _∙_}
+use mathlib.Core.Bool.{Bool, true, false}
+use mathlib.Core.List.{List, _∷_}
+use native.Mathlib.Omega.{arith}
+use native.Mathlib.Nat.{add-zero}
+use native.Mathlib.Numerals.{add-one}
+use lib.ListN.{length, getD, take, drop, length-drop}
+use lib.Seq.{drop-cons}
+use borrow.Author.Tests.{le-leb, lt-leb}
+use Rattle.macm.specs.Check.{agrees}
+use Rattle.front.specs.declared.Claim.{Claim}
+use Rattle.front.specs.declared.Claim.the-variants.{Nothing, AtLeast, Long}
+use Rattle.front.specs.Claim.{claim}
+use Rattle.division.specs.declared.Step.the-variants.{On}
+use Rattle.division.specs.declared.Walked.the-variants.{Message}
+use Rattle.division.specs.Walk.{further, wanting, walkedBy, walkOf}
+use Rattle.division.specs.Steps.{NoStart, Skipped, wanted, Stepped}
+use Rattle.division.proofs.Skipping.{no-start}
+
+module _ (ended : Bool) (s : List ℕ) (reach at : ℕ) (l : at < length s) where
+  walk-at : walkOf ended (drop at s) at reach ≡ walkedBy ended (claim (drop at s)) (drop at s) at reach (λ t. walkOf ended (drop (at + 1) s) (at + 1) t)
+  unfolding walkOf
+  walk-at = rw (drop-cons s at 0 l, add-one)
+
+  passes : claim (drop at s) ≡ Nothing → walkOf ended (drop at s) at reach ≡ walkOf ended (drop (at + 1) s) (at + 1) reach
+  unfolding walkedBy
+  passes e = walk-at ∙ rw e
+
+  wants-more : walkedBy ended (claim (drop at s)) (drop at s) at reach (λ t. walkOf ended (drop (at + 1) s) (at + 1) t) ≡ wanting ended at (walkOf ended (drop (at + 1) s) (at + 1) reach)
+      → Stepped ended s at reach (wanted ended at reach)
+  wants-more e = go ended (walk-at ∙ e)
+    where
+      go : (b : Bool) → walkOf ended (drop at s) at reach ≡ wanting b at (walkOf ended (drop (at + 1) s) (at + 1) reach) → Stepped ended s at reach (wanted b at reach)
+      go true e = (omega arith, omega arith, e)
+      go false e = e
+
+  pub waits : (k : ℕ) → claim (drop at s) ≡ AtLeast k → Stepped ended s at reach (wanted ended at reach)
+  unfolding walkedBy
+  waits k e = wants-more (rw e)
+
+  module _ (n : ℕ) (e : claim (drop at s) ≡ Long n) where
+    pub short : length s - at < n → Stepped ended s at reach (wanted ended at reach)
+    unfolding walkedBy
+    short m = wants-more (rw (e, lt-leb n (length (drop at s)) (omega (arith, length-drop at s))))
+
+    module _ (here : n ≤ length s - at) (u : ℕ) (q : u ≡ further reach (at + n)) where
+      all : n ≤ length (drop at s)
+      all = omega (arith, length-drop at s)
+
+      pub agreed : agrees (take n (drop at s)) ≡ true → walkOf ended (drop at s) at reach ≡ Message at n u
+      unfolding walkedBy
+      agreed a = walk-at ∙ rw (e, le-leb n (length (drop at s)) all, a, q)
+
+      pub damaged : agrees (take n (drop at s)) ≡ false → Stepped ended s at reach (On (at + 1) u)
+      unfolding walkedBy
+      damaged a = (omega arith, omega arith, walk-at ∙ rw (e, le-leb n (length (drop at s)) all, a, q))
+
+-- over bytes where none starts
+module _ (ended : Bool) (s : List ℕ) (reach : ℕ) where
+  skips : (d k : ℕ) → k + d ≤ length s → ((i : ℕ) → k ≤ i → i < k + d → NoStart s i) → walkOf ended (drop k s) k reach ≡ walkOf ended (drop (k + d) s) (k + d) reach
+  skips zero k l n = ap (λ i. walkOf ended (drop i s) i reach) (sym (add-zero k))
+  skips (suc d) k l n =
+      let z : k + 1 + d ≡ k + suc d = omega arith in
+      passes ended s reach k (omega arith) (no-start s k (omega arith) (n k (omega arith) (omega arith)))
+      ∙ skips d (k + 1) (omega arith) (λ i a b. n i (omega arith) (omega arith)) ∙ ap (λ i. walkOf ended (drop i s) i reach) z
+
+  pub nothing : (at r : ℕ) → at < length s → claim (drop at s) ≡ Nothing → Skipped s (at + 1) r → Stepped ended s at reach (On r reach)
+  nothing at r l e n =
+      let z : at + 1 + (r - (at + 1)) ≡ r = omega (arith, n .from-on) in
+      (omega (arith, n .from-on), n .within,
+        passes ended s reach at l e ∙ skips (r - (at + 1)) (at + 1) (omega (arith, n .within)) (λ i a b. n .none i a (omega arith)) ∙ ap (λ i. walkOf ended (drop i s) i reach) z)

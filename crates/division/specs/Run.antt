@@ -1,0 +1,31 @@
+-- Calls of a reader, one after the other, and what they come to. Definitions only.
+use Prim.Native.Nat.{ℕ, zero, suc, _+_}
+use mathlib.Core.List.{List}
+use lib.ListN.{take, drop}
+use Rattle.refusal.specs.declared.Refusal.{Refusal}
+use Rattle.division.specs.declared.Next.{Next}
+use Rattle.division.specs.declared.Next.the-variants.{Refused, Message, End}
+use Rattle.division.specs.Division.{Division, last, part}
+use Rattle.division.specs.Plain.{nextOf}
+
+-- a call is refused; so many calls do not come to the end; the end with its gap bytes; gap bytes, a message, and the calls after it
+pub data Run : Type 0 where
+  refused : Refusal → Run
+  unfinished : Run
+  ended : ℕ → Run
+  gave : ℕ → List ℕ → Run → Run
+
+-- what a division asks of a run
+unfoldable pub asRun : Division → Run
+asRun (last g) = ended g
+asRun (part g m d) = gave g m (asRun d)
+
+-- the plain reader, at most so many calls: each from the end of the message before
+unfoldable pub readOn : List ℕ → (ℕ → Run) → Next → Run
+readOn s go (Refused r) = refused r
+readOn s go (Message p n g) = gave g (take n (drop p s)) (go (p + n))
+readOn s go (End g) = ended g
+
+unfoldable pub readPlain : ℕ → List ℕ → ℕ → Run
+readPlain zero s start = unfinished
+readPlain (suc k) s start = readOn s (readPlain k s) (nextOf s start)
