@@ -10,7 +10,8 @@ for crate in $(sed 's/#.*//; s/:.*//' crates.txt); do
     laws=crates/$crate/proofs/Determined.antt
     for name in $(sed -n 's/^ *pub \(extern "C" \)\{0,1\}fn \([a-z0-9_]*\).*/\2/p' "crates/$crate"/src/*.rt); do
         law=$(printf %s "$name" | tr _ -)-determined
-        if grep -Eq "^pub $law : Determined $crate\.([A-Za-z_]+\.)*$name\.ended $crate\.([A-Za-z_]+\.)*$name\.Reads\.Learnt$" "$laws" 2>/dev/null; then
+        where="$crate\.([A-Za-z_]+\.)*$name"
+        if grep -Eq "^pub $law : Determined(By)? $where\.ended (\(λ κs z z′\. SamePart z z′\) )?$where\.Reads\.Learnt$" "$laws" 2>/dev/null; then
             found=$((found + 1))
         elif ! grep -q "^- \`$crate::$name\`: " docs/PROMISES.md; then
             echo "determined: $crate::$name has no theorem $law and no exception"

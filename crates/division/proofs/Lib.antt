@@ -4,3 +4,4 @@ pub mod DivideSteps
 pub mod AddsUp
 pub mod GivenIff
 pub mod PlainSame
+pub mod Determined

@@ -7,9 +7,9 @@ use mathlib.Core.List.{List, [], _∷_}
 use native.Mathlib.Nat.{add-zero, add-suc, suc-add}
 use native.Mathlib.Omega.{arith}
 use lib.ListN.{length, take, drop, length-drop}
-use lib.Seq.{drop-drop, length-take-le}
+use lib.Seq.{drop-drop, length-take-le, take-all}
 use lib.Dec.{ltb, leb}
-use borrow.Author.Tests.{le-ltb, lt-ltb, leb-true, leb-false}
+use borrow.Author.Tests.{le-ltb, lt-ltb, ltb-false, leb-true}
 use Rattle.refusal.specs.declared.Refusal.the-variants.{PastEnd}
 use Rattle.macm.specs.Check.{agrees}
 use Rattle.front.specs.declared.Claim.{Claim}
@@ -47,7 +47,8 @@ one-more x xs at e (Message k n t) h =
       ahead = suc (h .ahead);
       counted = omega (arith, h .counted);
       within = omega (arith, h .within);
-      is = λ g. divide-gap x xs g e ∙ h .is (suc g) ∙ ap (λ i. part i m d) (suc-add g (h .ahead) ∙ sym (add-suc g (h .ahead))) }
+      is = λ g. divide-gap x xs g e ∙ h .is (suc g) ∙ ap (λ i. part i m d) (suc-add g (h .ahead) ∙ sym (add-suc g (h .ahead)));
+    }
 one-more x xs at e (Unsettled k) h = (omega (arith, h .0), λ g. divide-gap x xs g e ∙ h .1 (suc g) ∙ ap last (suc-add g (length xs) ∙ sym (add-suc g (length xs))))
 
 pub walk-ends : (xs : List ℕ) (at t : ℕ) → Ends xs at (walkOf true xs at t)
@@ -70,7 +71,8 @@ walk-ends (x ∷ xs) at t = go (claim (x ∷ xs)) refl (claim-fact (x ∷ xs)) (
               ahead = 0;
               counted = omega arith;
               within = omega (arith, leb-true n (length (x ∷ xs)) q);
-              is = λ g. divide-message x xs g n (rw (p, q, r)) (omega (arith, h .0)) ∙ ap (λ i. part i (take n (x ∷ xs)) (divide (drop n (x ∷ xs)) 0)) (sym (add-zero g)) }
+              is = λ g. divide-message x xs g n (rw (p, q, r)) (omega (arith, h .0)) ∙ ap (λ i. part i (take n (x ∷ xs)) (divide (drop n (x ∷ xs)) 0)) (sym (add-zero g));
+            }
         test true q false r = on (rw (p, q, r)) (further t (at + n)) ih
         test false q a r = on (rw (p, q)) t ih
 
@@ -95,6 +97,42 @@ module _ (s : List ℕ) (start : ℕ) where
     pub next-end : (k : ℕ) → Ends (drop start s) 0 (Unsettled k) → End k ≡ nextOf s start
     next-end k f = ap End (f .0) ∙ next-is _ (f .1 0)
 
+-- as the code has it: the walk of `&recording[start..]`
+module _ (s : List ℕ) (start : ℕ) (w : Walked) (e : w ≡ walkOf true (take (length s - start) (drop start s)) 0 0) where
+  ends : Ends (drop start s) 0 w
+  ends =
+      let z : w ≡ walkOf true (drop start s) 0 0 = e ∙ ap (λ r. walkOf true r 0 0) (take-all (length s - start) (drop start s) (omega (arith, length-drop start s))) in
+      rw z (walk-ends (drop start s) 0 0)
+
+  pub ends-message : (k n t : ℕ) → w ≡ Message k n t → Passed (drop start s) 0 k n
+  ends-message k n t q = rw q at ends
+
+  pub ends-unsettled : (k : ℕ) → w ≡ Unsettled k → Ends (drop start s) 0 (Unsettled k)
+  ends-unsettled k q = rw q at ends
+
+-- a message that is given stands in the slice
+pub given-within : (s : List ℕ) (start p n g : ℕ) (r : Next) → r ≡ nextOf s start → r ≡ Given p n g → p + n ≤ length s
+unfolding nextOf
+given-within s start p n g r e q = go (ltb (length s) start) refl
+  where
+    z : nextOf s start ≡ Given p n g
+    z = sym e ∙ q
+
+    go : (b : Bool) → ltb (length s) start ≡ b → p + n ≤ length s
+    go true t = absurd (let y : _≡_ {A = Next} (Refused PastEnd) (Given p n g) = rw t at z in let x : _≡_ {A = ℕ} 0 1 = cc in omega arith)
+    go false t = by (walkOf true (drop start s) 0 0) (walk-ends (drop start s) 0 0)
+      where
+        l : start ≤ length s
+        l = ltb-false (length s) start t
+
+        by : (w : Walked) → Ends (drop start s) 0 w → p + n ≤ length s
+        by (Message k m u) f =
+            let y : Given (start + k) m k ≡ Given p n g = next-given s start l k m f ∙ z in
+            let a : start + k ≡ p = cc in
+            let b : m ≡ n = cc in
+            omega (arith, l, f .within, f .counted, length-drop start s)
+        by (Unsettled k) f = absurd (let y : End k ≡ Given p n g = next-end s start l k f ∙ z in let x : _≡_ {A = ℕ} 0 1 = cc in omega arith)
+
 -- ---- and its calls, one after the other, are the division
 module _ (s : List ℕ) where
   plain-from : (c start : ℕ) → start ≤ length s → count (divide (drop start s) 0) < c → readPlain c s start ≡ asRun (divide (drop start s) 0)
@@ -109,7 +147,7 @@ module _ (s : List ℕ) where
           let a : drop (f .ahead) (drop start s) ≡ drop (start + k) s = drop-drop (f .ahead) start s ∙ ap (λ i. drop (start + i) s) z in
           let b : drop n (drop (f .ahead) (drop start s)) ≡ drop (start + k + n) s = ap (drop n) a ∙ drop-drop n (start + k) s in
           let d : divide (drop start s) 0 ≡ part k (take n (drop (start + k) s)) (divide (drop (start + k + n) s) 0) =
-              f .is 0 ∙ ap₂ (λ i r. part i (take n r) (divide (drop n r) 0)) (sym (f .counted)) a ∙ ap (λ r. part k (take n (drop (start + k) s)) (divide r 0)) (sym (ap (drop n) a) ∙ b) in
+          f .is 0 ∙ ap₂ (λ i r. part i (take n r) (divide (drop n r) 0)) (sym (f .counted)) a ∙ ap (λ r. part k (take n (drop (start + k) s)) (divide r 0)) (sym (ap (drop n) a) ∙ b) in
           let q : count (divide (drop (start + k + n) s) 0) < c = omega (arith, ap count d) in
           ap (readOn s (readPlain c s)) (sym (next-given s start l k n f))
           ∙ ap (gave k (take n (drop (start + k) s))) (ih (start + k + n) (omega (arith, f .within, length-drop start s)) q) ∙ ap asRun (sym d)

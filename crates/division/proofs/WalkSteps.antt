@@ -6,15 +6,17 @@ use mathlib.Core.List.{List, _∷_}
 use native.Mathlib.Omega.{arith}
 use native.Mathlib.Nat.{add-zero}
 use native.Mathlib.Numerals.{add-one}
-use lib.ListN.{length, getD, take, drop, length-drop}
-use lib.Seq.{drop-cons}
+use lib.ListN.{length, getD, take, drop, length-drop, drop-of-length-le}
+use lib.Seq.{drop-cons, take-all}
 use borrow.Author.Tests.{le-leb, lt-leb}
 use Rattle.macm.specs.Check.{agrees}
 use Rattle.front.specs.declared.Claim.{Claim}
 use Rattle.front.specs.declared.Claim.the-variants.{Nothing, AtLeast, Long}
 use Rattle.front.specs.Claim.{claim}
-use Rattle.division.specs.declared.Step.the-variants.{On}
-use Rattle.division.specs.declared.Walked.the-variants.{Message}
+use Rattle.division.specs.declared.Step.{Step}
+use Rattle.division.specs.declared.Step.the-variants.{On, Stop}
+use Rattle.division.specs.declared.Walked.{Walked}
+use Rattle.division.specs.declared.Walked.the-variants.{Message, Unsettled}
 use Rattle.division.specs.Walk.{further, wanting, walkedBy, walkOf}
 use Rattle.division.specs.Steps.{NoStart, Skipped, wanted, Stepped}
 use Rattle.division.proofs.Skipping.{no-start}
@@ -68,6 +70,26 @@ module _ (ended : Bool) (s : List ℕ) (reach : ℕ) where
 
   pub nothing : (at r : ℕ) → at < length s → claim (drop at s) ≡ Nothing → Skipped s (at + 1) r → Stepped ended s at reach (On r reach)
   nothing at r l e n =
-      let z : at + 1 + (r - (at + 1)) ≡ r = omega (arith, n .from-on) in
-      (omega (arith, n .from-on), n .within,
-        passes ended s reach at l e ∙ skips (r - (at + 1)) (at + 1) (omega (arith, n .within)) (λ i a b. n .none i a (omega arith)) ∙ ap (λ i. walkOf ended (drop i s) i reach) z)
+      let z : at + 1 + (r - (at + 1)) ≡ r = omega (arith, n .from-on) in (
+        omega (arith, n .from-on),
+        n .within,
+        passes ended s reach at l e ∙ skips (r - (at + 1)) (at + 1) (omega (arith, n .within)) (λ i a b. n .none i a (omega arith)) ∙ ap (λ i. walkOf ended (drop i s) i reach) z,
+      )
+
+-- ---- as the code has it: what `&bytes[at..]` and `&bytes[at..end]` are, and which way a step went
+pub claimed : (s : List ℕ) (at : ℕ) (r : Claim) → r ≡ claim (take (length s - at) (drop at s)) → claim (drop at s) ≡ r
+claimed s at r e = sym (e ∙ ap claim (take-all (length s - at) (drop at s) (omega (arith, length-drop at s))))
+
+pub summed : (s : List ℕ) (at n : ℕ) (b : Bool) → b ≡ agrees (take (at + n - at) (drop at s)) → agrees (take n (drop at s)) ≡ b
+summed s at n b e = let z : at + n - at ≡ n = omega arith in sym (e ∙ ap (λ k. agrees (take k (drop at s))) z)
+
+module _ (ended : Bool) (s : List ℕ) (at reach : ℕ) (r : Step) (h : Stepped ended s at reach r) where
+  pub stepped-on : (at′ reach′ : ℕ) → r ≡ On at′ reach′ → (at < at′) × (at′ ≤ length s) × (walkOf ended (drop at s) at reach ≡ walkOf ended (drop at′ s) at′ reach′)
+  stepped-on at′ reach′ e = rw e at h
+
+  pub stepped-stop : (w : Walked) → r ≡ Stop w → walkOf ended (drop at s) at reach ≡ w
+  stepped-stop w e = rw e at h
+
+pub walk-end : (ended : Bool) (s : List ℕ) (at reach : ℕ) → length s ≤ at → walkOf ended (drop at s) at reach ≡ Unsettled at
+unfolding walkOf
+walk-end ended s at reach l = rw (drop-of-length-le s l)

@@ -6,6 +6,7 @@ use mathlib.Core.List.{List, [], _∷_}
 use Prim.Native.Nat.{ℕ}
 use contract.Lifetimes.{Lfts}
 use denote.RattleType.{Denots}
+use denote.Ref.{RefT}
 use denote.Signature.{Slot, typesAt}
 use denote.Triple.Entry.{Args, Res}
 use denote.Triple.End.{Kepts, Fins}
@@ -20,10 +21,18 @@ abbrev pub Same : {n : ℕ} (κs : Lfts n) (ss : List (Slot n)) (ks : Kepts ss) 
 Same κs [] ks a w w′ = Unit {0}
 Same κs (s ∷ ss) ks a w w′ = (w .0 ≡ w′ .0) × Same κs ss (ks .1) (a .1) (w .1) (w′ .1)
 
--- two answers that meet the claim on the same arguments are equal, and so is what stands behind each `&mut` afterwards
-abbrev pub Determined : (T : Ended) → Claim T → Type 0
-Determined T L =
+-- two answers that meet the claim on the same arguments are the same, by `R`, and so is what stands behind each `&mut` afterwards
+abbrev pub DeterminedBy : (T : Ended) → ((κs : Lfts (T .signature .lifetimes)) → Res (T .signature) κs → Res (T .signature) κs → Type 0) → Claim T → Type 0
+DeterminedBy T R L =
     (κs : Lfts (T .signature .lifetimes)) (a : Args (T .signature) κs) (z z′ : Res (T .signature) κs) (w w′ : Lasts T κs a) →
     L κs a z (atExit T κs a w) →
     L κs a z′ (atExit T κs a w′) →
-    (z ≡ z′) × Same κs (T .signature .params) (T .kept) a w w′
+    R κs z z′ × Same κs (T .signature .params) (T .kept) a w w′
+
+-- two answers by value are the same if they are equal
+abbrev pub Determined : (T : Ended) → Claim T → Type 0
+Determined T L = DeterminedBy T (λ κs z z′. z ≡ z′) L
+
+-- two parts of a slice are the same if they stand at the same place and hold the same bytes. (A reference has a third part, a name that only the logic sees.)
+abbrev pub SamePart : RefT (List ℕ) → RefT (List ℕ) → Type 0
+SamePart z z′ = (z .ptr .0 ≡ z′ .ptr .0) × (z .ptr .1 ≡ z′ .ptr .1) × (z .now ≡ z′ .now)

@@ -1,63 +1,57 @@
+-- `division::count_starts` meets its contract: no start is counted only where there is none. Assumes nothing.
+use Prim.Native.Nat.{ℕ, _+_, _-_, _≤_, _<_}
+use mathlib.Core.Path.{_≡_}
+use native.Mathlib.Omega.{arith}
+use Rattle.division.specs.Steps.{NoStart}
+use Rattle.division.proofs.Skipping.{counted-one}
 use borrow.Author.Needs.{needs}
 use Rattle.division.proofs.count_starts.Statement.{statement}
 use Rattle.division.proofs.count_starts.Tie as tie
-use Rattle.division.proofs.count_starts.Reads as reads
-use Rattle.division.proofs.count_starts.Lts as lts
-use Rattle.division.proofs.is_start.Reads as is-start-reads
 
 abbrev Inv-loop : tie.InvT-loop
-Inv-loop bytes at n₀ i₀ n i = ?
+Inv-loop bytes at n₀ i₀ n i = (i ≤ 64) × (n ≤ i) × (n ≡ 0 → (j : ℕ) → j < i → NoStart bytes (at + j))
 
 abbrev μ-loop : tie.MeasureT-loop
-μ-loop bytes at n₀ i₀ n i = ?
+μ-loop bytes at n₀ i₀ n i = 64 - i
 
--- src/lib.rt:60:5
 loop-holds : tie.Need-loop-holds Inv-loop μ-loop
-loop-holds c = search needs
+loop-holds c = (omega arith, omega arith, λ z j l. absurd (omega arith))
 
--- src/lib.rt:61:32
 add-is-start : tie.Need-add-is-start Inv-loop μ-loop
 add-is-start c = search needs
 
--- src/lib.rt:61:26
 shared-slice-read-is-start : tie.Need-shared-slice-read-is-start Inv-loop μ-loop
 shared-slice-read-is-start c = search needs
 
--- src/lib.rt:61:47
 add-is-start-2 : tie.Need-add-is-start-2 Inv-loop μ-loop
 add-is-start-2 c = search needs
 
--- src/lib.rt:61:47
 add-is-start-3 : tie.Need-add-is-start-3 Inv-loop μ-loop
 add-is-start-3 c = search needs
 
--- src/lib.rt:61:41
 shared-slice-read-is-start-2 : tie.Need-shared-slice-read-is-start-2 Inv-loop μ-loop
 shared-slice-read-is-start-2 c = search needs
 
--- src/lib.rt:61:17
 is-start-requires : tie.Need-is-start-requires Inv-loop μ-loop
 is-start-requires c κs = search needs
 
--- src/lib.rt:61:13
 add-n : tie.Need-add-n Inv-loop μ-loop
 add-n c = search needs
 
--- src/lib.rt:60:9
 add-i : tie.Need-add-i Inv-loop μ-loop
 add-i c = search needs
 
--- src/lib.rt:60:5
 loop-less : tie.Need-loop-less Inv-loop μ-loop
 loop-less c = search needs
 
--- src/lib.rt:60:5
 loop-again : tie.Need-loop-again Inv-loop μ-loop
-loop-again c = search needs
+loop-again c =
+    let a = c .before .before .before .before .before .before .args in
+    let l = c .before .before .before .before .loop in
+    (omega arith, omega (arith, c .is-start .ensures .0), counted-one (a .bytes .now) (a .at) (l .i) (l .n) (c .is-start .result) (omega arith) (l .inv .2) (c .is-start .ensures .1))
 
--- src/lib.rt:55:1
 returns : tie.Need-returns Inv-loop μ-loop
-returns c = search needs
+returns c z i l = c .before .loop .inv .2 z i (omega arith)
 
 pub count-starts-spec : {M : Type 1} → statement M
 count-starts-spec =

@@ -1,36 +1,33 @@
+-- `division::may_start` meets its contract. Assumes nothing.
+use Prim.Native.Nat.{ℕ}
+use mathlib.Core.Path.{_≡_}
+use mathlib.Core.Logic.{inl, inr}
+use native.Mathlib.Omega.{arith}
+use borrow.Author.Tests.{eqb-false}
 use borrow.Author.Needs.{needs}
 use Rattle.division.proofs.may_start.Statement.{statement}
 use Rattle.division.proofs.may_start.Tie as tie
-use Rattle.division.proofs.may_start.Reads as reads
-use Rattle.division.proofs.may_start.Lts as lts
 
--- src/lib.rt:71:8
 shared-slice-read-if1 : tie.Need-shared-slice-read-if1
 shared-slice-read-if1 c = search needs
 
--- src/lib.rt:72:9
 returns : tie.Need-returns
-returns c = ?
+returns c z = inl (c .if1 .taken)
 
--- src/lib.rt:74:8
 add-if2 : tie.Need-add-if2
 add-if2 c = search needs
 
--- src/lib.rt:75:15
 add-result : tie.Need-add-result
 add-result c = search needs
 
--- src/lib.rt:75:9
 shared-slice-read-result : tie.Need-shared-slice-read-result
 shared-slice-read-result c = search needs
 
--- src/lib.rt:67:1
 returns-2 : tie.Need-returns-2
-returns-2 c = ?
+returns-2 c z = inr (c .before .if2 .taken, eqb-false _ _ z)
 
--- src/lib.rt:67:1
 returns-3 : tie.Need-returns-3
-returns-3 c = ?
+returns-3 c z = let y : _≡_ {A = ℕ} 0 1 = cc in absurd (omega arith)
 
 pub may-start-spec : {M : Type 1} → statement M
 may-start-spec =

@@ -1,49 +1,48 @@
+-- `division::next_message` meets its contract. Assumes nothing.
+use mathlib.Core.Path.{_∙_}
+use native.Mathlib.Omega.{arith}
+use lib.ListN.{length-drop}
+use Rattle.division.proofs.PlainSame.{next-past, next-given, next-end, ends-message, ends-unsettled}
 use borrow.Author.Needs.{needs}
 use Rattle.division.proofs.next_message.Statement.{statement}
 use Rattle.division.proofs.next_message.Tie as tie
-use Rattle.division.proofs.next_message.Reads as reads
-use Rattle.division.proofs.next_message.Lts as lts
-use Rattle.division.proofs.walk.Reads as walk-reads
 
--- src/lib.rt:181:9
 returns : tie.Need-returns
-returns c = ?
+returns c = next-past _ _ (c .if1 .taken)
 
--- src/lib.rt:183:29
 sub-walk : tie.Need-sub-walk
 sub-walk c = search needs
 
--- src/lib.rt:183:29
 part-walk-start : tie.Need-part-walk-start
 part-walk-start c = search needs
 
--- src/lib.rt:183:29
 part-walk-end : tie.Need-part-walk-end
 part-walk-end c = search needs
 
--- src/lib.rt:183:9
 walk-requires : tie.Need-walk-requires
 walk-requires c κs = search needs
 
--- src/lib.rt:185:25
 enum-known-walked : tie.Need-enum-known-walked
 enum-known-walked c = search needs
 
--- src/lib.rt:186:23
 add-t14 : tie.Need-add-t14
-add-t14 c = ?
+add-t14 c =
+    let a = c .before .before .before .before .before .before .before .args in
+    let f = ends-message (a .recording .now) (a .start) _ (c .before .before .before .walk .ensures) _ _ _ (c .before .walked .given .1) in
+    omega (arith, f .counted, f .within, length-drop (a .start) (a .recording .now), c .before .before .before .before .before .if1 .left)
 
--- src/lib.rt:190:27
 enum-known-walked-2 : tie.Need-enum-known-walked-2
 enum-known-walked-2 c = search needs
 
--- src/lib.rt:177:1
 returns-2 : tie.Need-returns-2
-returns-2 c = ?
+returns-2 c =
+    let a = c .before .before .before .before .before .before .before .args in
+    next-given (a .recording .now) (a .start) (c .before .before .before .before .before .if1 .left) _ _ (ends-message (a .recording .now) (a .start) _ (c .before .before .before .walk .ensures) _ _ _ (c .before .walked .given .1))
 
--- src/lib.rt:177:1
 returns-3 : tie.Need-returns-3
-returns-3 c = ?
+returns-3 c =
+    let a = c .before .before .before .before .before .before .before .args in
+    next-end (a .recording .now) (a .start) (c .before .before .before .before .before .if1 .left) _ (ends-unsettled (a .recording .now) (a .start) _ (c .before .before .before .walk .ensures) _ (c .before .walked2 .given .1))
 
 pub next-message-spec : {M : Type 1} → statement M
 next-message-spec =

@@ -1,109 +1,107 @@
+-- `division::settle` meets its contract. Assumes nothing.
+use mathlib.Core.Path.{sym, _∙_}
+use native.Mathlib.Omega.{arith}
+use Rattle.division.proofs.WalkSteps.{nothing, waits, short, agreed, damaged, claimed, summed}
 use borrow.Author.Needs.{needs}
 use Rattle.division.proofs.settle.Statement.{statement}
 use Rattle.division.proofs.settle.Tie as tie
-use Rattle.division.proofs.settle.Reads as reads
-use Rattle.division.proofs.settle.Lts as lts
-use Rattle.division.proofs.furthest.Reads as furthest-reads
-use Rattle.division.proofs.next_start.Reads as next-start-reads
-use Rattle.division.proofs.wants.Reads as wants-reads
-use Rattle.front.proofs.claims.Reads as claims-reads
-use Rattle.macm.proofs.agreeing.Reads as agreeing-reads
 
--- src/lib.rt:135:31
 sub-claims : tie.Need-sub-claims
 sub-claims c = search needs
 
--- src/lib.rt:135:31
 part-claims-start : tie.Need-part-claims-start
 part-claims-start c = search needs
 
--- src/lib.rt:135:31
 part-claims-end : tie.Need-part-claims-end
 part-claims-end c = search needs
 
--- src/lib.rt:135:9
 claims-requires : tie.Need-claims-requires
 claims-requires c κs = search needs
 
--- src/lib.rt:137:54
 enum-told : tie.Need-enum-told
 enum-told c = search needs
 
--- src/lib.rt:137:54
 add-next-start : tie.Need-add-next-start
 add-next-start c = search needs
 
--- src/lib.rt:137:36
 next-start-requires : tie.Need-next-start-requires
 next-start-requires c κs = search needs
 
--- src/lib.rt:138:30
 enum-told-2 : tie.Need-enum-told-2
 enum-told-2 c = search needs
 
--- src/lib.rt:138:30
 wants-requires : tie.Need-wants-requires
 wants-requires c κs = search needs
 
--- src/lib.rt:139:21
 enum-known-claim : tie.Need-enum-known-claim
 enum-known-claim c = search needs
 
--- src/lib.rt:140:16
 sub-if1 : tie.Need-sub-if1
 sub-if1 c = search needs
 
--- src/lib.rt:141:17
 wants-requires-2 : tie.Need-wants-requires-2
 wants-requires-2 c κs = search needs
 
--- src/lib.rt:141:17
 returns : tie.Need-returns
-returns c = ?
+returns c =
+    let told = c .before .before .before in
+    let claims = told .before .before in
+    let start = claims .before .before .before in
+    let a = start .args in
+    rw (c .wants2 .ensures) (short (a .ended) (a .bytes .now) (a .reach) (a .at) (start .pre) _ (claimed (a .bytes .now) (a .at) _ (claims .claims .ensures) ∙ told .claim .given .1) (c .before .if1 .taken))
 
--- src/lib.rt:143:23
 add-end : tie.Need-add-end
 add-end c = search needs
 
--- src/lib.rt:144:17
 furthest-requires : tie.Need-furthest-requires
 furthest-requires c κs = search needs
 
--- src/lib.rt:145:31
 sub-agreeing : tie.Need-sub-agreeing
 sub-agreeing c = search needs
 
--- src/lib.rt:145:31
 part-agreeing-start : tie.Need-part-agreeing-start
 part-agreeing-start c = search needs
 
--- src/lib.rt:145:31
 part-agreeing-end : tie.Need-part-agreeing-end
 part-agreeing-end c = search needs
 
--- src/lib.rt:145:16
 agreeing-requires : tie.Need-agreeing-requires
 agreeing-requires c κs = search needs
 
--- src/lib.rt:146:17
 returns-2 : tie.Need-returns-2
-returns-2 c = ?
+returns-2 c =
+    let told = c .before .before .before .before .before .before in
+    let claims = told .before .before in
+    let start = claims .before .before .before in
+    let a = start .args in
+    agreed (a .ended) (a .bytes .now) (a .reach) (a .at) (start .pre) _ (claimed (a .bytes .now) (a .at) _ (claims .claims .ensures) ∙ told .claim .given .1) (c .before .before .before .before .if1 .left) _ (c .before .before .before .furthest .ensures)
+    (summed (a .bytes .now) (a .at) _ _ (c .before .agreeing .ensures) ∙ c .if2 .taken)
 
--- src/lib.rt:148:22
 add-t17 : tie.Need-add-t17
 add-t17 c = search needs
 
--- src/lib.rt:131:1
 returns-3 : tie.Need-returns-3
-returns-3 c = ?
+returns-3 c =
+    let claims = c .before .before .before in
+    let start = claims .before .before .before in
+    let a = start .args in
+    nothing (a .ended) (a .bytes .now) (a .reach) (a .at) _ (start .pre) (claimed (a .bytes .now) (a .at) _ (claims .claims .ensures) ∙ c .before .enum-told .given .1) (c .next-start .ensures)
 
--- src/lib.rt:131:1
 returns-4 : tie.Need-returns-4
-returns-4 c = ?
+returns-4 c =
+    let claims = c .before .before .before in
+    let start = claims .before .before .before in
+    let a = start .args in
+    rw (c .wants .ensures) (waits (a .ended) (a .bytes .now) (a .reach) (a .at) (start .pre) _ (claimed (a .bytes .now) (a .at) _ (claims .claims .ensures) ∙ c .before .enum-told2 .given .1))
 
--- src/lib.rt:131:1
 returns-5 : tie.Need-returns-5
-returns-5 c = ?
+returns-5 c =
+    let told = c .before .before .before .before .before .before in
+    let claims = told .before .before in
+    let start = claims .before .before .before in
+    let a = start .args in
+    damaged (a .ended) (a .bytes .now) (a .reach) (a .at) (start .pre) _ (claimed (a .bytes .now) (a .at) _ (claims .claims .ensures) ∙ told .claim .given .1) (c .before .before .before .before .if1 .left) _ (c .before .before .before .furthest .ensures)
+    (summed (a .bytes .now) (a .at) _ _ (c .before .agreeing .ensures) ∙ c .if2 .left)
 
 pub settle-spec : {M : Type 1} → statement M
 settle-spec =

@@ -1,47 +1,57 @@
+-- `division::walk` meets its contract: the walk from where the loop stands is the whole walk. Assumes nothing.
+use Prim.Native.Nat.{_-_, _≤_}
+use mathlib.Core.Path.{_≡_, refl, sym, _∙_}
+use native.Mathlib.Omega.{arith}
+use lib.ListN.{length, drop}
+use Rattle.division.specs.Walk.{walkOf}
+use Rattle.division.proofs.WalkSteps.{stepped-on, stepped-stop, walk-end}
 use borrow.Author.Needs.{needs}
 use Rattle.division.proofs.walk.Statement.{statement}
 use Rattle.division.proofs.walk.Tie as tie
-use Rattle.division.proofs.walk.Reads as reads
-use Rattle.division.proofs.walk.Lts as lts
-use Rattle.division.proofs.settle.Reads as settle-reads
 
 abbrev Inv-loop : tie.InvT-loop
-Inv-loop ended bytes at₀ reach₀ at reach = ?
+Inv-loop ended bytes at₀ reach₀ at reach = (at ≤ length bytes) × (walkOf ended bytes 0 0 ≡ walkOf ended (drop at bytes) at reach)
 
 abbrev μ-loop : tie.MeasureT-loop
-μ-loop ended bytes at₀ reach₀ at reach = ?
+μ-loop ended bytes at₀ reach₀ at reach = length bytes - at
 
--- src/lib.rt:159:5
 loop-holds : tie.Need-loop-holds Inv-loop μ-loop
-loop-holds c = search needs
+loop-holds c = (omega arith, refl)
 
--- src/lib.rt:160:13
 settle-requires : tie.Need-settle-requires Inv-loop μ-loop
 settle-requires c κs = search needs
 
--- src/lib.rt:162:22
 enum-known-stepped : tie.Need-enum-known-stepped Inv-loop μ-loop
 enum-known-stepped c = search needs
 
--- src/lib.rt:159:5
 loop-less : tie.Need-loop-less Inv-loop μ-loop
-loop-less c = search needs
+loop-less c =
+    let l = c .before .before .before .before .before .loop in
+    let a = c .before .before .before .before .before .before .before .args in
+    let h = stepped-on (a .ended) (a .bytes .now) (l .at) (l .reach) _ (c .before .before .before .settle .ensures) _ _ (c .before .stepped .given .1) in
+    omega (arith, h .0, h .1)
 
--- src/lib.rt:159:5
 loop-again : tie.Need-loop-again Inv-loop μ-loop
-loop-again c = search needs
+loop-again c =
+    let l = c .before .before .before .before .before .loop in
+    let a = c .before .before .before .before .before .before .before .args in
+    let h = stepped-on (a .ended) (a .bytes .now) (l .at) (l .reach) _ (c .before .before .before .settle .ensures) _ _ (c .before .stepped .given .1) in
+    (h .1, l .inv .1 ∙ h .2)
 
--- src/lib.rt:166:24
 enum-known-stepped-2 : tie.Need-enum-known-stepped-2 Inv-loop μ-loop
 enum-known-stepped-2 c = search needs
 
--- src/lib.rt:167:17
 returns : tie.Need-returns Inv-loop μ-loop
-returns c = search needs
+returns c =
+    let l = c .before .before .before .before .before .loop in
+    let a = c .before .before .before .before .before .before .before .args in
+    sym (l .inv .1 ∙ stepped-stop (a .ended) (a .bytes .now) (l .at) (l .reach) _ (c .before .before .before .settle .ensures) _ (c .before .stepped2 .given .1))
 
--- src/lib.rt:154:1
 returns-2 : tie.Need-returns-2 Inv-loop μ-loop
-returns-2 c = search needs
+returns-2 c =
+    let l = c .before .loop in
+    let a = c .before .before .before .args in
+    sym (l .inv .1 ∙ walk-end (a .ended) (a .bytes .now) (l .at) (l .reach) (c .loop-test .left))
 
 pub walk-spec : {M : Type 1} → statement M
 walk-spec =
