@@ -1,0 +1,4 @@
+pub mod ScanLaws
+pub mod FeedLaws
+pub mod RunRight
+pub mod AnyCut

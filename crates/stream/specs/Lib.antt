@@ -1,0 +1,5 @@
+pub mod Scan
+pub mod Feed
+pub mod Reader
+pub mod Calls
+pub mod Steps
