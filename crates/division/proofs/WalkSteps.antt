@@ -22,7 +22,7 @@ use Rattle.division.specs.Steps.{NoStart, Skipped, wanted, Stepped}
 use Rattle.division.proofs.Skipping.{no-start}
 
 module _ (ended : Bool) (s : List ℕ) (reach at : ℕ) (l : at < length s) where
-  walk-at : walkOf ended (drop at s) at reach ≡ walkedBy ended (claim (drop at s)) (drop at s) at reach (λ t. walkOf ended (drop (at + 1) s) (at + 1) t)
+  pub walk-at : walkOf ended (drop at s) at reach ≡ walkedBy ended (claim (drop at s)) (drop at s) at reach (λ t. walkOf ended (drop (at + 1) s) (at + 1) t)
   unfolding walkOf
   walk-at = rw (drop-cons s at 0 l, add-one)
 

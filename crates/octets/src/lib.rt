@@ -1,6 +1,7 @@
 // Bytes: the exclusive-or checksum, numbers most significant byte first, two's complement, copies.
 // Every function here takes all inputs; what each answers is a definition of specs/.
 ghost use mathlib.Core.Path.{_≡_};
+ghost use mathlib.Core.Logic.{_⊎_};
 ghost use Prim.Native.Nat.{ℕ, _+_, _*_, _<_, _≤_, _%_, _^_};
 ghost use lib.IntN.{negsuc};
 ghost use lib.ListN.{length, take, drop, replicate};
@@ -161,15 +162,19 @@ pub fn clear(s: &mut [u8])
     }
 }
 
-// As much of `from` as `to` has room for, at the front of `to`.
+fn lesser(a: usize, b: usize) -> usize
+    ensures { λ r. ⌜ (r ≤ a) × (r ≤ b) × ((r ≡ a) ⊎ (r ≡ b)) ⌝ }
+{
+    if a < b { a } else { b }
+}
+
+// As much of `from` as `to` has room for, at the front of `to`. The number is known before the loop, so that it is done in vectors.
 pub fn copy(from: &[u8], to: &mut [u8])
     ensures { λ _. ⌜ now (to .exit) ≡ over (take (length (now (to .entry))) (now (from .entry))) (now (to .entry)) ⌝ }
 {
+    let n = lesser(from.len(), to.len());
     let mut i = 0;
-    while i < from.len() {
-        if to.len() <= i {
-            return;
-        }
+    while i < n {
         to[i] = from[i];
         i += 1;
     }

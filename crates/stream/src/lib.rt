@@ -291,7 +291,14 @@ fn give(at: usize, size: usize, held: usize, window: &mut [u8], output: &mut [u8
 }
 
 // The same from a piece, of which the first `reach` bytes are taken.
-fn give_from(piece: &[u8], at: usize, size: usize, reach: usize, window: &mut [u8], output: &mut [u8])
+fn give_from(
+    piece: &[u8],
+    at: usize,
+    size: usize,
+    reach: usize,
+    window: &mut [u8],
+    output: &mut [u8],
+)
     requires { ⌜ (at + size ≤ reach) × (reach ≤ length (now piece)) × (reach - (at + size) ≤ length (now window)) × (size ≤ length (now output)) ⌝ }
     ensures { λ _. ⌜ Gave at size (take reach (now (piece .entry))) (now (window .entry)) (now (output .entry)) (now (window .exit)) (now (output .exit)) ⌝ }
 {
@@ -303,7 +310,14 @@ fn give_from(piece: &[u8], at: usize, size: usize, reach: usize, window: &mut [u
 // ---- a feed
 
 // The rest of a feed once `taken` bytes of the piece are taken, nothing is held and `gap` bytes stand before: the piece is divided where it stands.
-fn in_place(state: State, gap: usize, taken: usize, piece: &[u8], window: &mut [u8], output: &mut [u8]) -> Reply
+fn in_place(
+    state: State,
+    gap: usize,
+    taken: usize,
+    piece: &[u8],
+    window: &mut [u8],
+    output: &mut [u8],
+) -> Reply
     requires { ⌜ Left state gap taken (now piece) (now window) (now output) ⌝ }
     ensures { λ r. ⌜ Leaves (fedCall state (now (window .entry)) (now (output .entry)) (now (piece .entry)) (feed [] gap (drop taken (now (piece .entry))))) r (now (window .exit)) (now (output .exit)) ⌝ }
 {
@@ -312,7 +326,14 @@ fn in_place(state: State, gap: usize, taken: usize, piece: &[u8], window: &mut [
     match walked {
         Walked::Message(at, length, reach) => {
             give_from(rest, at, length, reach, window, output);
-            gives(state, reach - (at + length), length, gap + at, taken + reach, 0)
+            gives(
+                state,
+                reach - (at + length),
+                length,
+                gap + at,
+                taken + reach,
+                0,
+            )
         }
         Walked::Unsettled(at) => {
             lay(&rest[at..], window);

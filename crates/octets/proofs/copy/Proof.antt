@@ -1,10 +1,10 @@
 -- `octets::copy` meets its contract: the bytes passed stand at the front, the old ones behind them. Assumes nothing.
 use Prim.Native.Nat.{ℕ, suc, _+_, _-_, _≤_, _<_}
-use mathlib.Core.Path.{_≡_, refl, sym, ap, ap₂, _∙_}
-use mathlib.Core.List.{List, [], _∷_, _++_}
+use mathlib.Core.Path.{_≡_, refl, sym, ap, _∙_}
+use mathlib.Core.Logic.{_⊎_, ⊎-elim}
+use mathlib.Core.List.{List, _∷_, _++_}
 use native.Mathlib.Omega.{arith}
 use native.Mathlib.Numerals.{add-one}
-use native.Mathlib.Nat.{le-antisymm}
 use lib.ListN.{length, getD, set, take, drop, length-set}
 use lib.Seq.{drop-cons, take-suc, take-all, set-at, append-snoc, length-take-le}
 use Rattle.octets.specs.Parts.{over}
@@ -19,55 +19,53 @@ turned from to₀ to i l k e =
     ap (λ t. set t i v) z ∙ set-at (take i from) (getD to₀ i 0) (drop (suc i) to₀) v i (length-take-le i from (omega arith))
     ∙ sym (append-snoc (take i from) v (drop (suc i) to₀)) ∙ rw (add-one, take-suc from i 0 l)
 
+-- the lesser of the two lengths takes as much as there is room for
+all : (from to : List ℕ) (i n : ℕ) → n ≤ i → n ≤ length to → i ≤ n → (n ≡ length from) ⊎ (n ≡ length to) → take (length to) from ≡ take i from
+all from to i n l k m h =
+    ⊎-elim (λ z. take-all (length to) from (omega arith) ∙ sym (take-all i from (omega arith))) (λ z. let y : length to ≡ i = omega arith in ap (λ j. take j from) y) h
+
 ended : (from to₀ to : List ℕ) (i : ℕ) → i ≤ length from → take (length to₀) from ≡ take i from → to ≡ take i from ++ drop i to₀ → to ≡ over (take (length to₀) from) to₀
 ended from to₀ to i l q e = e ∙ ap (λ n. take i from ++ drop n to₀) (sym (length-take-le i from l)) ∙ ap (λ b. over b to₀) (sym q)
 
 abbrev Inv-loop : tie.InvT-loop
-Inv-loop from to₀ i₀ to i = (i ≤ length from) × (i ≤ length to₀) × (to ≡ take i from ++ drop i to₀) × (length to ≡ length to₀)
+Inv-loop from to₀ n i₀ to i = (i ≤ n) × (to ≡ take i from ++ drop i to₀) × (length to ≡ length to₀)
 
 abbrev μ-loop : tie.MeasureT-loop
-μ-loop from to₀ i₀ to i = length from - i
+μ-loop from to₀ n i₀ to i = n - i
+
+lesser-requires : tie.Need-lesser-requires Inv-loop μ-loop
+lesser-requires c κs = search needs
 
 loop-holds : tie.Need-loop-holds Inv-loop μ-loop
-loop-holds c = (omega arith, omega arith, refl, refl)
-
-same-length : tie.Need-same-length Inv-loop μ-loop
-same-length c = c .before .before .loop .inv .3
-
-returns : tie.Need-returns Inv-loop μ-loop
-returns c =
-    let b = c .before .before in
-    let a = b .before .args in
-    let z : length (a .to .now) ≡ b .loop .i = omega arith in
-    ended (a .from .now) (a .to .now) (b .loop .to) (b .loop .i) (b .loop .inv .0) (ap (λ n. take n (a .from .now)) z) (b .loop .inv .2)
+loop-holds c = (omega arith, refl, refl)
 
 shared-slice-read-to : tie.Need-shared-slice-read-to Inv-loop μ-loop
 shared-slice-read-to c = search needs
 
 slice-write-to : tie.Need-slice-write-to Inv-loop μ-loop
-slice-write-to c = omega arith
+slice-write-to c = search needs
 
 add-i : tie.Need-add-i Inv-loop μ-loop
-add-i c = omega arith
+add-i c = search needs
 
 loop-less : tie.Need-loop-less Inv-loop μ-loop
-loop-less c = omega arith
+loop-less c = search needs
 
 loop-again : tie.Need-loop-again Inv-loop μ-loop
 loop-again c =
-    let b = c .before .before .before in
-    let a = b .before .args in
-    (omega arith, omega arith, turned (a .from .now) (a .to .now) (b .loop .to) (b .loop .i) (omega arith) (omega arith) (b .loop .inv .2), simp length-set (b .loop .inv .3))
+    let l = c .before .before .loop in
+    let a = c .before .before .before .before .before .before .args in
+    (omega arith, turned (a .from .now) (a .to .now) (l .to) (l .i) (omega arith) (omega arith) (l .inv .1), simp length-set (l .inv .2))
 
-same-length-2 : tie.Need-same-length-2 Inv-loop μ-loop
-same-length-2 c = c .before .loop .inv .3
+same-length : tie.Need-same-length Inv-loop μ-loop
+same-length c = c .before .loop .inv .2
 
-returns-2 : tie.Need-returns-2 Inv-loop μ-loop
-returns-2 c =
-    let b = c .before in
-    let a = b .before .args in
-    let z : take (length (a .to .now)) (a .from .now) ≡ take (b .loop .i) (a .from .now) = take-all (length (a .to .now)) (a .from .now) (omega arith) ∙ sym (take-all (b .loop .i) (a .from .now) (omega arith)) in
-    ended (a .from .now) (a .to .now) (b .loop .to) (b .loop .i) (b .loop .inv .0) z (b .loop .inv .2)
+returns : tie.Need-returns Inv-loop μ-loop
+returns c =
+    let l = c .before .loop in
+    let n = c .before .before .lesser in
+    let a = c .before .before .before .before .before .args in
+    ended (a .from .now) (a .to .now) (l .to) (l .i) (omega (arith, n .ensures .0)) (all (a .from .now) (a .to .now) (l .i) (n .result) (omega arith) (omega (arith, n .ensures .1)) (omega arith) (n .ensures .2)) (l .inv .1)
 
 pub copy-spec : {M : Type 1} → statement M
 copy-spec =
@@ -75,13 +73,12 @@ copy-spec =
     (tie.spec
     Inv-loop
     μ-loop
+    lesser-requires
     loop-holds
-    same-length
-    returns
     shared-slice-read-to
     slice-write-to
     add-i
     loop-less
     loop-again
-    same-length-2
-    returns-2)
+    same-length
+    returns)
