@@ -4,3 +4,6 @@ pub mod RunRight
 pub mod AnyCut
 pub mod WalkScan
 pub mod Reach
+pub mod WindowSteps
+pub mod TurnSteps
+pub mod CallSteps
