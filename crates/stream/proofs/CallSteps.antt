@@ -120,6 +120,7 @@ module _ (s : State) (p w o : List ℕ) where
   unfolding feedCall
   feed-goes r w′ o′ e h = rw e h
 
+module _ (s : State) (w o : List ℕ) where
   pub finish-refused : (r : Refusal) → checked s (length w) (length o) ≡ Shut r → Leaves (finishCall s w o) (record { answer = Refused r; state = s }) w o
   unfolding finishCall
   finish-refused r e = rw e (record { reply = refl; window = refl; output = refl })

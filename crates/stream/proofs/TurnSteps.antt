@@ -17,11 +17,13 @@ use Rattle.front.proofs.Waiting.{look-wait}
 use Rattle.division.specs.declared.Walked.{Walked}
 use Rattle.division.specs.declared.Walked.the-variants.{Message as AtMessage, Unsettled}
 use Rattle.division.specs.Walk.{walkOf}
+use Rattle.stream.specs.declared.Filled.{Filled}
+use Rattle.stream.specs.declared.Filled.the-variants.{Message as FilledMessage, More as FilledMore, Empty}
 use Rattle.stream.specs.declared.Turn.{Turn}
 use Rattle.stream.specs.declared.Turn.the-variants.{Message, More, On}
 use Rattle.stream.specs.Scan.{got, stop, scan}
 use Rattle.stream.specs.Feed.{fed, feed, given, more}
-use Rattle.stream.specs.Steps.{TurnedOn, TurnedMore, Turned, Opened, FilledGiven, FilledWants, FilledEmpty}
+use Rattle.stream.specs.Steps.{TurnedOn, TurnedMore, Turned, Opened, FilledGiven, FilledWants, FilledEmpty, FilledAs}
 use Rattle.stream.proofs.ScanLaws.{scan-open-at, StopsOpen}
 use Rattle.stream.proofs.FeedLaws.{fed-bulk}
 use Rattle.stream.proofs.WalkScan.{found-message, found-none}
@@ -195,3 +197,14 @@ module _ (h₀ g₀ : ℕ) (w₀ p : List ℕ) (h g t : ℕ) (w : List ℕ) (f :
   fill-on h′ g′ c e =
       let v = told (On h′ g′ c) e in
       (record { within = omega (arith, v .within, length-drop t p); room = v .room; same = v .same ∙ f .same; sums = omega (arith, v .sums); feeds = f .feeds ∙ v .goes ∙ rw (drop-drop c t p) }, v .takes)
+
+-- ---- which way the turns went
+module _ (h₀ g₀ : ℕ) (w p : List ℕ) (r : Filled) (w₁ : List ℕ) (f : FilledAs h₀ g₀ w p r w₁) where
+  pub told-given : (g k n h t : ℕ) → r ≡ FilledMessage g k n h t → FilledGiven h₀ g₀ w p g k n h t w₁
+  told-given g k n h t e = rw e at f
+
+  pub told-wants : (h g : ℕ) → r ≡ FilledMore h g → FilledWants h₀ g₀ w p h g w₁
+  told-wants h g e = rw e at f
+
+  pub told-empty : (g t : ℕ) → r ≡ Empty g t → FilledEmpty h₀ g₀ w p g t w₁
+  told-empty g t e = rw e at f

@@ -23,7 +23,7 @@ pub appended : (p b w : List ℕ) (at : ℕ) → at + length p ≤ length b → 
     → take at b ++ (w ++ drop (length b - at) (drop at b)) ≡ paste b at p (length p)
 appended p b w at l e =
     let z : w ≡ p ++ drop (at + length p) b =
-        e ∙ ap (λ r. over (take (length r) p) r) (tail b at) ∙ ap (λ r. over r (drop at b)) (take-all (length (drop at b)) p (omega (arith, length-drop at b))) ∙ ap (λ r. p ++ r) (drop-drop (length p) at b) in
+    e ∙ ap (λ r. over (take (length r) p) r) (tail b at) ∙ ap (λ r. over r (drop at b)) (take-all (length (drop at b)) p (omega (arith, length-drop at b))) ∙ ap (λ r. p ++ r) (drop-drop (length p) at b) in
     ap (λ r. take at b ++ (w ++ r)) (nothing-behind b at) ∙ ap (λ r. take at b ++ r) (append-nil w ∙ z ∙ ap (λ r. r ++ drop (at + length p) b) (sym (take-length p))) ∙ sym (append-assoc (take at b) (take (length p) p) (drop (at + length p) b))
 
 pub cleared : (b w : List ℕ) (from : ℕ) → from ≤ length b → w ≡ replicate (length (take (length b - from) (drop from b))) 0
@@ -95,12 +95,13 @@ unfolding laid
 gave-held k n h w o o′ w₁ w₂ inside within p q r =
     let m = h - (k + n) in
     let cut : take m w₁ ≡ take m (drop (k + n) w) =
-        ap (take m) q ∙ ap (λ i. take i (paste w 0 (drop (k + n) w) m)) (sym (zero-add m)) ∙ take-paste w 0 (drop (k + n) w) m (omega arith) (omega (arith, length-drop (k + n) w)) in
+    ap (take m) q ∙ ap (λ i. take i (paste w 0 (drop (k + n) w) m)) (sym (zero-add m)) ∙ take-paste w 0 (drop (k + n) w) m (omega arith) (omega (arith, length-drop (k + n) w)) in
     let same : length w₁ ≡ length w = ap length q ∙ length-paste w 0 (drop (k + n) w) m (omega arith) (omega (arith, length-drop (k + n) w)) in
     let rest : drop n (drop k (take h w)) ≡ take m w₁ = rest-part k n h w inside ∙ sym cut in
     record {
       window = r ∙ rw (rest, length-take-le m w₁ (omega (arith, same)), same);
-      output = p ∙ paste-over (take (k + n - k) (drop k w)) o ∙ ap (λ l. over l o) (sym (message-part k n h w inside)) }
+      output = p ∙ paste-over (take (k + n - k) (drop k w)) o ∙ ap (λ l. over l o) (sym (message-part k n h w inside));
+    }
 
 -- from a piece
 pub gave-piece : (k n e : ℕ) (q w o w′ o′ : List ℕ) → k + n ≤ e

@@ -1,90 +1,124 @@
+-- `stream::feed_on` meets its contract. Assumes nothing.
+use native.Mathlib.Omega.{arith}
+use Rattle.stream.proofs.CallSteps.{fed-given, fed-wants, fed-empty}
+use Rattle.stream.proofs.TurnSteps.{told-given, told-wants, told-empty}
 use borrow.Author.Needs.{needs}
 use Rattle.stream.proofs.feed_on.Statement.{statement}
 use Rattle.stream.proofs.feed_on.Tie as tie
-use Rattle.stream.proofs.feed_on.Reads as reads
-use Rattle.stream.proofs.feed_on.Lts as lts
-use Rattle.stream.proofs.clear.Reads as clear-reads
-use Rattle.stream.proofs.fill.Reads as fill-reads
-use Rattle.stream.proofs.give.Reads as give-reads
-use Rattle.stream.proofs.gives.Reads as gives-reads
-use Rattle.stream.proofs.in_place.Reads as in-place-reads
-use Rattle.stream.proofs.wants_more.Reads as wants-more-reads
 
--- src/lib.rt:330:9
 fill-requires : tie.Need-fill-requires
 fill-requires c κs = search needs
 
--- src/lib.rt:333:18
 enum-known-filled : tie.Need-enum-known-filled
 enum-known-filled c = search needs
 
--- src/lib.rt:339:13
 give-requires : tie.Need-give-requires
-give-requires c κs = ?
+give-requires c κs =
+    let told = c .before .before .before in
+    let filled = told .before .before .before .before in
+    let start = filled .before .before .before .before .before in
+    let x = start .args in
+    let f = told-given (x .state .held) (x .state .gap) (x .window .now) (x .piece .now) (filled .fill .result) (filled .fill .last .1 .1 .0) (filled .fill .ensures) _ _ _ _ _ (told .filled .given .1) in
+    (f .inside, omega (arith, f .same, f .room, start .pre .window), omega (arith, f .inside, f .room, start .pre .output))
 
--- src/lib.rt:340:34
 add-gives : tie.Need-add-gives
-add-gives c = ?
+add-gives c =
+    let told = c .before .before .before .before .before .before .before .before in
+    let filled = told .before .before .before .before in
+    let start = filled .before .before .before .before .before in
+    let x = start .args in
+    let f = told-given (x .state .held) (x .state .gap) (x .window .now) (x .piece .now) (filled .fill .result) (filled .fill .last .1 .1 .0) (filled .fill .ensures) _ _ _ _ _ (told .filled .given .1) in
+    omega (arith, f .inside, f .within, f .same, f .room, start .pre .window, start .pre .output, start .pre .fits)
 
--- src/lib.rt:340:26
 sub-gives : tie.Need-sub-gives
-sub-gives c = ?
+sub-gives c =
+    let told = c .before .before .before .before .before .before .before .before in
+    let filled = told .before .before .before .before in
+    let start = filled .before .before .before .before .before in
+    let x = start .args in
+    let f = told-given (x .state .held) (x .state .gap) (x .window .now) (x .piece .now) (filled .fill .result) (filled .fill .last .1 .1 .0) (filled .fill .ensures) _ _ _ _ _ (told .filled .given .1) in
+    omega (arith, f .inside, f .within, f .same, f .room, start .pre .window, start .pre .output, start .pre .fits)
 
--- src/lib.rt:340:13
 gives-requires : tie.Need-gives-requires
-gives-requires c κs = ?
+gives-requires c κs =
+    let told = c .before .before .before .before .before .before .before .before in
+    let filled = told .before .before .before .before in
+    let start = filled .before .before .before .before .before in
+    let x = start .args in
+    let f = told-given (x .state .held) (x .state .gap) (x .window .now) (x .piece .now) (filled .fill .result) (filled .fill .last .1 .1 .0) (filled .fill .ensures) _ _ _ _ _ (told .filled .given .1) in
+    omega (arith, f .inside, f .within, f .same, f .room, start .pre .window, start .pre .output, start .pre .fits)
 
--- src/lib.rt:342:22
 enum-known-filled-2 : tie.Need-enum-known-filled-2
 enum-known-filled-2 c = search needs
 
--- src/lib.rt:343:13
 clear-requires : tie.Need-clear-requires
-clear-requires c κs = ?
+clear-requires c κs =
+    let told = c .before .before in
+    let filled = told .before .before .before .before in
+    let start = filled .before .before .before .before .before in
+    let x = start .args in
+    let f = told-wants (x .state .held) (x .state .gap) (x .window .now) (x .piece .now) (filled .fill .result) (filled .fill .last .1 .1 .0) (filled .fill .ensures) _ _ (told .filled2 .given .1) in
+    omega (arith, f .same, f .room, start .pre .window)
 
--- src/lib.rt:344:13
 wants-more-requires : tie.Need-wants-more-requires
 wants-more-requires c κs = search needs
 
--- src/lib.rt:346:23
 enum-known-filled-3 : tie.Need-enum-known-filled-3
 enum-known-filled-3 c = search needs
 
--- src/lib.rt:346:41
 in-place-requires : tie.Need-in-place-requires
-in-place-requires c κs = ?
+in-place-requires c κs =
+    let told = c .before .before .before in
+    let filled = told .before .before .before .before in
+    let start = filled .before .before .before .before .before in
+    let x = start .args in
+    let f = told-empty (x .state .held) (x .state .gap) (x .window .now) (x .piece .now) (filled .fill .result) (filled .fill .last .1 .1 .0) (filled .fill .ensures) _ _ (told .filled3 .given .1) in
+    record { within = f .within; window = omega (arith, f .same, start .pre .window); output = start .pre .output; small = omega (arith, f .sums, f .within, start .pre .sums, start .pre .fits); fits = start .pre .fits }
 
--- src/lib.rt:324:1
 same-length : tie.Need-same-length
 same-length c = search needs
 
--- src/lib.rt:324:1
 same-length-2 : tie.Need-same-length-2
 same-length-2 c = search needs
 
--- src/lib.rt:324:1
 returns : tie.Need-returns
-returns c = ?
+returns c =
+    let gave = c .before .before .before .before .before in
+    let told = gave .before .before .before .before in
+    let filled = told .before .before .before .before in
+    let start = filled .before .before .before .before .before in
+    let x = start .args in
+    let f = told-given (x .state .held) (x .state .gap) (x .window .now) (x .piece .now) (filled .fill .result) (filled .fill .last .1 .1 .0) (filled .fill .ensures) _ _ _ _ _ (told .filled .given .1) in
+    fed-given (x .state) (x .window .now) (x .output .now) (x .piece .now) (start .pre .window) _ _ _ _ _ _ _ _ _ f (gave .give .ensures) (c .gives .ensures)
 
--- src/lib.rt:324:1
 same-length-3 : tie.Need-same-length-3
 same-length-3 c = search needs
 
--- src/lib.rt:324:1
 returns-2 : tie.Need-returns-2
-returns-2 c = ?
+returns-2 c =
+    let cleared = c .before .before .before in
+    let told = cleared .before .before .before in
+    let filled = told .before .before .before .before in
+    let start = filled .before .before .before .before .before in
+    let x = start .args in
+    let f = told-wants (x .state .held) (x .state .gap) (x .window .now) (x .piece .now) (filled .fill .result) (filled .fill .last .1 .1 .0) (filled .fill .ensures) _ _ (told .filled2 .given .1) in
+    fed-wants (x .state) (x .window .now) (x .output .now) (x .piece .now) (start .pre .window) _ _ _ _ _ f (cleared .clear .ensures) (c .wants-more .ensures)
 
--- src/lib.rt:324:1
 same-length-4 : tie.Need-same-length-4
 same-length-4 c = search needs
 
--- src/lib.rt:324:1
 same-length-5 : tie.Need-same-length-5
 same-length-5 c = search needs
 
--- src/lib.rt:324:1
 returns-3 : tie.Need-returns-3
-returns-3 c = ?
+returns-3 c =
+    let placed = c .before .before .before .before in
+    let told = placed .before .before .before .before in
+    let filled = told .before .before .before .before in
+    let start = filled .before .before .before .before .before in
+    let x = start .args in
+    let f = told-empty (x .state .held) (x .state .gap) (x .window .now) (x .piece .now) (filled .fill .result) (filled .fill .last .1 .1 .0) (filled .fill .ensures) _ _ (told .filled3 .given .1) in
+    fed-empty (x .state) (x .window .now) (x .output .now) (x .piece .now) (start .pre .window) _ _ _ _ _ _ f (placed .in-place .ensures)
 
 pub feed-on-spec : {M : Type 1} → statement M
 feed-on-spec =

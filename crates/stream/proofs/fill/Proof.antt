@@ -1,87 +1,127 @@
+-- `stream::fill` meets its contract: what is left of the feed is the whole feed. Assumes nothing.
+use Prim.Native.Nat.{_-_}
+use native.Mathlib.Omega.{arith}
+use lib.ListN.{length}
+use Rattle.stream.proofs.TurnSteps.{Filling, filling-begins, fill-given, fill-wants, fill-on, fill-empty}
 use borrow.Author.Needs.{needs}
 use Rattle.stream.proofs.fill.Statement.{statement}
 use Rattle.stream.proofs.fill.Tie as tie
-use Rattle.stream.proofs.fill.Reads as reads
-use Rattle.stream.proofs.fill.Lts as lts
-use Rattle.stream.proofs.one_turn.Reads as one-turn-reads
 
 abbrev Inv-loop : tie.InvT-loop
-Inv-loop held gap window₀ piece h₀ g₀ taken₀ window h g taken = ?
+Inv-loop held gap window₀ piece h₀ g₀ taken₀ window h g taken = Filling held gap window₀ piece h g taken window
 
 abbrev μ-loop : tie.MeasureT-loop
-μ-loop held gap window₀ piece h₀ g₀ taken₀ window h g taken = ?
+μ-loop held gap window₀ piece h₀ g₀ taken₀ window h g taken = length piece - taken
 
--- src/lib.rt:216:5
 loop-holds : tie.Need-loop-holds Inv-loop μ-loop
-loop-holds c = search needs
+loop-holds c =
+    let start = c .before .before in
+    filling-begins (start .args .held) (start .args .gap) (start .args .window .now) (start .args .piece .now) (start .pre .0)
 
--- src/lib.rt:218:13
 same-length : tie.Need-same-length Inv-loop μ-loop
-same-length c = search needs
+same-length c = c .before .loop .inv .same
 
--- src/lib.rt:218:13
 returns : tie.Need-returns Inv-loop μ-loop
-returns c = search needs
+returns c =
+    let loop = c .before in
+    let start = loop .before .before .before in
+    let x = start .args in
+    fill-empty (x .held) (x .gap) (x .window .now) (x .piece .now) (loop .loop .h) (loop .loop .g) (loop .loop .taken) (loop .loop .window) (loop .loop .inv) (c .if1 .taken)
 
--- src/lib.rt:220:43
 sub-one-turn : tie.Need-sub-one-turn Inv-loop μ-loop
 sub-one-turn c = search needs
 
--- src/lib.rt:220:43
 part-one-turn-start : tie.Need-part-one-turn-start Inv-loop μ-loop
 part-one-turn-start c = search needs
 
--- src/lib.rt:220:43
 part-one-turn-end : tie.Need-part-one-turn-end Inv-loop μ-loop
 part-one-turn-end c = search needs
 
--- src/lib.rt:220:13
 one-turn-requires : tie.Need-one-turn-requires Inv-loop μ-loop
 one-turn-requires c κs = search needs
 
--- src/lib.rt:222:27
 enum-known-turn : tie.Need-enum-known-turn Inv-loop μ-loop
 enum-known-turn c = search needs
 
--- src/lib.rt:224:26
 add-t23 : tie.Need-add-t23 Inv-loop μ-loop
-add-t23 c = search needs
+add-t23 c =
+    let told = c .before in
+    let one = told .before .before .before .before in
+    let loop = one .before .before .before .before in
+    let start = loop .before .before .before in
+    let x = start .args in
+    omega (arith, fill-given (x .held) (x .gap) (x .window .now) (x .piece .now) (loop .loop .h) (loop .loop .g) (loop .loop .taken) (loop .loop .window) (loop .loop .inv) (one .one-turn .result) (one .one-turn .last .1 .1 .0) (one .one-turn .ensures) _ _ (told .turn .given .1), loop .loop .inv, start .pre)
 
--- src/lib.rt:223:17
 same-length-2 : tie.Need-same-length-2 Inv-loop μ-loop
-same-length-2 c = search needs
+same-length-2 c =
+    let told = c .before in
+    let one = told .before .before .before .before in
+    let loop = one .before .before .before .before in
+    let start = loop .before .before .before in
+    let x = start .args in
+    fill-given (x .held) (x .gap) (x .window .now) (x .piece .now) (loop .loop .h) (loop .loop .g) (loop .loop .taken) (loop .loop .window) (loop .loop .inv) (one .one-turn .result) (one .one-turn .last .1 .1 .0) (one .one-turn .ensures) _ _ (told .turn .given .1) .same
 
--- src/lib.rt:223:17
 returns-2 : tie.Need-returns-2 Inv-loop μ-loop
-returns-2 c = search needs
+returns-2 c =
+    let told = c .before in
+    let one = told .before .before .before .before in
+    let loop = one .before .before .before .before in
+    let start = loop .before .before .before in
+    let x = start .args in
+    fill-given (x .held) (x .gap) (x .window .now) (x .piece .now) (loop .loop .h) (loop .loop .g) (loop .loop .taken) (loop .loop .window) (loop .loop .inv) (one .one-turn .result) (one .one-turn .last .1 .1 .0) (one .one-turn .ensures) _ _ (told .turn .given .1)
 
--- src/lib.rt:231:24
 enum-known-turn-2 : tie.Need-enum-known-turn-2 Inv-loop μ-loop
 enum-known-turn-2 c = search needs
 
--- src/lib.rt:232:17
 same-length-3 : tie.Need-same-length-3 Inv-loop μ-loop
-same-length-3 c = search needs
+same-length-3 c =
+    let told = c .before in
+    let one = told .before .before .before .before in
+    let loop = one .before .before .before .before in
+    let start = loop .before .before .before in
+    let x = start .args in
+    fill-wants (x .held) (x .gap) (x .window .now) (x .piece .now) (loop .loop .h) (loop .loop .g) (loop .loop .taken) (loop .loop .window) (loop .loop .inv) (one .one-turn .result) (one .one-turn .last .1 .1 .0) (one .one-turn .ensures) _ _ (told .turn2 .given .1) .same
 
--- src/lib.rt:232:17
 returns-3 : tie.Need-returns-3 Inv-loop μ-loop
-returns-3 c = search needs
+returns-3 c =
+    let told = c .before in
+    let one = told .before .before .before .before in
+    let loop = one .before .before .before .before in
+    let start = loop .before .before .before in
+    let x = start .args in
+    fill-wants (x .held) (x .gap) (x .window .now) (x .piece .now) (loop .loop .h) (loop .loop .g) (loop .loop .taken) (loop .loop .window) (loop .loop .inv) (one .one-turn .result) (one .one-turn .last .1 .1 .0) (one .one-turn .ensures) _ _ (told .turn2 .given .1)
 
--- src/lib.rt:234:22
 enum-known-turn-3 : tie.Need-enum-known-turn-3 Inv-loop μ-loop
 enum-known-turn-3 c = search needs
 
--- src/lib.rt:237:25
 add-taken : tie.Need-add-taken Inv-loop μ-loop
-add-taken c = search needs
+add-taken c =
+    let told = c .before in
+    let one = told .before .before .before .before in
+    let loop = one .before .before .before .before in
+    let start = loop .before .before .before in
+    let x = start .args in
+    let f = fill-on (x .held) (x .gap) (x .window .now) (x .piece .now) (loop .loop .h) (loop .loop .g) (loop .loop .taken) (loop .loop .window) (loop .loop .inv) (one .one-turn .result) (one .one-turn .last .1 .1 .0) (one .one-turn .ensures) _ _ _ (told .turn3 .given .1) in
+    omega (arith, f .0 .within, start .pre)
 
--- src/lib.rt:216:5
 loop-less : tie.Need-loop-less Inv-loop μ-loop
-loop-less c = search needs
+loop-less c =
+    let told = c .before in
+    let one = told .before .before .before .before in
+    let loop = one .before .before .before .before in
+    let start = loop .before .before .before in
+    let x = start .args in
+    let f = fill-on (x .held) (x .gap) (x .window .now) (x .piece .now) (loop .loop .h) (loop .loop .g) (loop .loop .taken) (loop .loop .window) (loop .loop .inv) (one .one-turn .result) (one .one-turn .last .1 .1 .0) (one .one-turn .ensures) _ _ _ (told .turn3 .given .1) in
+    omega (arith, f .0 .within, f .1, loop .loop .inv .within)
 
--- src/lib.rt:216:5
 loop-again : tie.Need-loop-again Inv-loop μ-loop
-loop-again c = search needs
+loop-again c =
+    let told = c .before in
+    let one = told .before .before .before .before in
+    let loop = one .before .before .before .before in
+    let start = loop .before .before .before in
+    let x = start .args in
+    fill-on (x .held) (x .gap) (x .window .now) (x .piece .now) (loop .loop .h) (loop .loop .g) (loop .loop .taken) (loop .loop .window) (loop .loop .inv) (one .one-turn .result) (one .one-turn .last .1 .1 .0) (one .one-turn .ensures) _ _ _ (told .turn3 .given .1) .0
 
 pub fill-spec : {M : Type 1} → statement M
 fill-spec =

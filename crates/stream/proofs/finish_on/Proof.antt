@@ -1,80 +1,100 @@
+-- `stream::finish_on` meets its contract. Assumes nothing.
+use mathlib.Core.Path.{sym}
+use native.Mathlib.Omega.{arith}
+use lib.Seq.{length-take-le}
+use Rattle.stream.proofs.CallSteps.{finish-inside, finish-within, finish-given, finish-end}
 use borrow.Author.Needs.{needs}
 use Rattle.stream.proofs.finish_on.Statement.{statement}
 use Rattle.stream.proofs.finish_on.Tie as tie
-use Rattle.stream.proofs.finish_on.Reads as reads
-use Rattle.stream.proofs.finish_on.Lts as lts
-use Rattle.division.proofs.walk.Reads as walk-reads
-use Rattle.stream.proofs.clear.Reads as clear-reads
-use Rattle.stream.proofs.give.Reads as give-reads
-use Rattle.stream.proofs.gives.Reads as gives-reads
 
--- src/lib.rt:372:39
 slice-reshare-prefix-walk : tie.Need-slice-reshare-prefix-walk
 slice-reshare-prefix-walk c = search needs
 
--- src/lib.rt:372:39
 slice-aggregate-walk : tie.Need-slice-aggregate-walk
-slice-aggregate-walk c = ?
+slice-aggregate-walk c = sym (length-take-le _ _ (omega (arith, c .before .before .before .pre)))
 
--- src/lib.rt:372:9
 walk-requires : tie.Need-walk-requires
 walk-requires c κs = search needs
 
--- src/lib.rt:374:25
 enum-known-walked : tie.Need-enum-known-walked
 enum-known-walked c = search needs
 
--- src/lib.rt:375:13
 give-requires : tie.Need-give-requires
-give-requires c κs = ?
+give-requires c κs =
+    let told = c .before .before .before in
+    let walk = told .before .before in
+    let start = walk .before .before .before .before in
+    let x = start .args in
+    let f = finish-inside (x .state) (x .window .now) (x .output .now) (start .pre) _ (walk .walk .ensures) _ _ _ (told .walked .given .1) in
+    (f, omega (arith, start .pre), omega (arith, start .pre))
 
--- src/lib.rt:376:34
 add-gives : tie.Need-add-gives
-add-gives c = ?
+add-gives c =
+    let told = c .before .before .before .before .before .before .before .before in
+    let walk = told .before .before in
+    let start = walk .before .before .before .before in
+    let x = start .args in
+    omega (arith, finish-inside (x .state) (x .window .now) (x .output .now) (start .pre) _ (walk .walk .ensures) _ _ _ (told .walked .given .1), start .pre)
 
--- src/lib.rt:376:26
 sub-gives : tie.Need-sub-gives
-sub-gives c = ?
+sub-gives c =
+    let told = c .before .before .before .before .before .before .before .before in
+    let walk = told .before .before in
+    let start = walk .before .before .before .before in
+    let x = start .args in
+    omega (arith, finish-inside (x .state) (x .window .now) (x .output .now) (start .pre) _ (walk .walk .ensures) _ _ _ (told .walked .given .1), start .pre)
 
--- src/lib.rt:376:56
 add-gives-2 : tie.Need-add-gives-2
-add-gives-2 c = ?
+add-gives-2 c =
+    let told = c .before .before .before .before .before .before .before .before in
+    let walk = told .before .before in
+    let start = walk .before .before .before .before in
+    let x = start .args in
+    omega (arith, finish-inside (x .state) (x .window .now) (x .output .now) (start .pre) _ (walk .walk .ensures) _ _ _ (told .walked .given .1), start .pre)
 
--- src/lib.rt:376:13
 gives-requires : tie.Need-gives-requires
 gives-requires c κs = search needs
 
--- src/lib.rt:378:27
 enum-known-walked-2 : tie.Need-enum-known-walked-2
 enum-known-walked-2 c = search needs
 
--- src/lib.rt:379:13
 clear-requires : tie.Need-clear-requires
 clear-requires c κs = search needs
 
--- src/lib.rt:380:24
 add-all : tie.Need-add-all
-add-all c = ?
+add-all c =
+    let told = c .before .before .before .before .before in
+    let walk = told .before .before in
+    let start = walk .before .before .before .before in
+    let x = start .args in
+    omega (arith, finish-within (x .state) (x .window .now) (x .output .now) (start .pre) _ (walk .walk .ensures) _ (told .walked2 .given .1), start .pre)
 
--- src/lib.rt:366:1
 same-length : tie.Need-same-length
 same-length c = search needs
 
--- src/lib.rt:366:1
 same-length-2 : tie.Need-same-length-2
 same-length-2 c = search needs
 
--- src/lib.rt:366:1
 returns : tie.Need-returns
-returns c = ?
+returns c =
+    let gave = c .before .before .before .before .before in
+    let told = gave .before .before .before .before in
+    let walk = told .before .before in
+    let start = walk .before .before .before .before in
+    let x = start .args in
+    finish-given (x .state) (x .window .now) (x .output .now) (start .pre) _ (walk .walk .ensures) _ _ _ _ _ _ (told .walked .given .1) (gave .give .ensures) (c .gives .ensures)
 
--- src/lib.rt:366:1
 same-length-3 : tie.Need-same-length-3
 same-length-3 c = search needs
 
--- src/lib.rt:366:1
 returns-2 : tie.Need-returns-2
-returns-2 c = ?
+returns-2 c =
+    let cleared = c .before .before in
+    let told = cleared .before .before .before in
+    let walk = told .before .before in
+    let start = walk .before .before .before .before in
+    let x = start .args in
+    finish-end (x .state) (x .window .now) (x .output .now) (start .pre) _ (walk .walk .ensures) _ _ (told .walked2 .given .1) (cleared .clear .ensures)
 
 pub finish-on-spec : {M : Type 1} → statement M
 finish-on-spec =

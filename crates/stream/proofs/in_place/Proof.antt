@@ -1,109 +1,165 @@
+-- `stream::in_place` meets its contract: where the walk over the piece stops is what the feed comes to. Assumes nothing.
+use Prim.Native.Nat.{_-_}
+use mathlib.Core.Path.{refl}
+use native.Mathlib.Omega.{arith}
+use lib.ListN.{length, take, drop, length-drop, length-take}
+use Rattle.stream.proofs.CallSteps.{rest-long, place-given, place-more}
+use Rattle.stream.proofs.Reach.{fed-message, fed-more}
 use borrow.Author.Needs.{needs}
 use Rattle.stream.proofs.in_place.Statement.{statement}
 use Rattle.stream.proofs.in_place.Tie as tie
-use Rattle.stream.proofs.in_place.Reads as reads
-use Rattle.stream.proofs.in_place.Lts as lts
-use Rattle.division.proofs.walk.Reads as walk-reads
-use Rattle.stream.proofs.give_from.Reads as give-from-reads
-use Rattle.stream.proofs.gives.Reads as gives-reads
-use Rattle.stream.proofs.lay.Reads as lay-reads
-use Rattle.stream.proofs.wants_more.Reads as wants-more-reads
 
--- src/lib.rt:310:16
 sub-rest : tie.Need-sub-rest
 sub-rest c = search needs
 
--- src/lib.rt:310:16
 part-rest-start : tie.Need-part-rest-start
 part-rest-start c = search needs
 
--- src/lib.rt:310:16
 part-rest-end : tie.Need-part-rest-end
 part-rest-end c = search needs
 
--- src/lib.rt:311:9
 walk-requires : tie.Need-walk-requires
 walk-requires c κs = search needs
 
--- src/lib.rt:313:25
 enum-known-walked : tie.Need-enum-known-walked
 enum-known-walked c = search needs
 
--- src/lib.rt:314:13
 give-from-requires : tie.Need-give-from-requires
-give-from-requires c κs = ?
+give-from-requires c κs =
+    let told = c .before .before .before in
+    let walk = told .before .before in
+    let start = walk .before .before .before .before .before in
+    let x = start .args in
+    let f = fed-message (take (length (x .piece .now) - x .taken) (drop (x .taken) (x .piece .now))) _ (walk .walk .ensures) _ _ _ (told .walked .given .1) in
+    (f .inside, f .within, omega (arith, f .held, start .pre .window), omega (arith, f .size, start .pre .output))
 
--- src/lib.rt:315:35
 add-gives : tie.Need-add-gives
-add-gives c = ?
+add-gives c =
+    let told = c .before .before .before .before .before .before .before .before in
+    let walk = told .before .before in
+    let start = walk .before .before .before .before .before in
+    let x = start .args in
+    let f = fed-message (take (length (x .piece .now) - x .taken) (drop (x .taken) (x .piece .now))) _ (walk .walk .ensures) _ _ _ (told .walked .given .1) in
+    omega (arith, f .inside, f .within, f .size, f .held, rest-long (x .state) (x .gap) (x .taken) (x .piece .now) (x .window .now) (x .output .now) (start .pre) _ refl, start .pre .within, start .pre .window, start .pre .output, start .pre .small, start .pre .fits)
 
--- src/lib.rt:315:26
 sub-gives : tie.Need-sub-gives
-sub-gives c = ?
+sub-gives c =
+    let told = c .before .before .before .before .before .before .before .before in
+    let walk = told .before .before in
+    let start = walk .before .before .before .before .before in
+    let x = start .args in
+    let f = fed-message (take (length (x .piece .now) - x .taken) (drop (x .taken) (x .piece .now))) _ (walk .walk .ensures) _ _ _ (told .walked .given .1) in
+    omega (arith, f .inside, f .within, f .size, f .held, rest-long (x .state) (x .gap) (x .taken) (x .piece .now) (x .window .now) (x .output .now) (start .pre) _ refl, start .pre .within, start .pre .window, start .pre .output, start .pre .small, start .pre .fits)
 
--- src/lib.rt:315:57
 add-gives-2 : tie.Need-add-gives-2
-add-gives-2 c = ?
+add-gives-2 c =
+    let told = c .before .before .before .before .before .before .before .before in
+    let walk = told .before .before in
+    let start = walk .before .before .before .before .before in
+    let x = start .args in
+    let f = fed-message (take (length (x .piece .now) - x .taken) (drop (x .taken) (x .piece .now))) _ (walk .walk .ensures) _ _ _ (told .walked .given .1) in
+    omega (arith, f .inside, f .within, f .size, f .held, rest-long (x .state) (x .gap) (x .taken) (x .piece .now) (x .window .now) (x .output .now) (start .pre) _ refl, start .pre .within, start .pre .window, start .pre .output, start .pre .small, start .pre .fits)
 
--- src/lib.rt:315:67
 add-gives-3 : tie.Need-add-gives-3
-add-gives-3 c = ?
+add-gives-3 c =
+    let told = c .before .before .before .before .before .before .before .before in
+    let walk = told .before .before in
+    let start = walk .before .before .before .before .before in
+    let x = start .args in
+    let f = fed-message (take (length (x .piece .now) - x .taken) (drop (x .taken) (x .piece .now))) _ (walk .walk .ensures) _ _ _ (told .walked .given .1) in
+    omega (arith, f .inside, f .within, f .size, f .held, rest-long (x .state) (x .gap) (x .taken) (x .piece .now) (x .window .now) (x .output .now) (start .pre) _ refl, start .pre .within, start .pre .window, start .pre .output, start .pre .small, start .pre .fits)
 
--- src/lib.rt:315:13
 gives-requires : tie.Need-gives-requires
-gives-requires c κs = ?
+gives-requires c κs =
+    let told = c .before .before .before .before .before .before .before .before in
+    let walk = told .before .before in
+    let start = walk .before .before .before .before .before in
+    let x = start .args in
+    let f = fed-message (take (length (x .piece .now) - x .taken) (drop (x .taken) (x .piece .now))) _ (walk .walk .ensures) _ _ _ (told .walked .given .1) in
+    omega (arith, f .inside, f .within, f .size, f .held, rest-long (x .state) (x .gap) (x .taken) (x .piece .now) (x .window .now) (x .output .now) (start .pre) _ refl, start .pre .within, start .pre .window, start .pre .output, start .pre .small, start .pre .fits)
 
--- src/lib.rt:317:27
 enum-known-walked-2 : tie.Need-enum-known-walked-2
 enum-known-walked-2 c = search needs
 
--- src/lib.rt:318:17
 sub-lay : tie.Need-sub-lay
-sub-lay c = ?
+sub-lay c =
+    let told = c .before in
+    let walk = told .before .before in
+    let start = walk .before .before .before .before .before in
+    let x = start .args in
+    let f = fed-more (take (length (x .piece .now) - x .taken) (drop (x .taken) (x .piece .now))) _ (walk .walk .ensures) _ (told .walked2 .given .1) in
+    omega (arith, f .within, f .held, rest-long (x .state) (x .gap) (x .taken) (x .piece .now) (x .window .now) (x .output .now) (start .pre) _ refl, start .pre .within, start .pre .window, start .pre .small, start .pre .fits)
 
--- src/lib.rt:318:17
 part-lay-start : tie.Need-part-lay-start
-part-lay-start c = ?
+part-lay-start c =
+    let told = c .before in
+    let walk = told .before .before in
+    let start = walk .before .before .before .before .before in
+    let x = start .args in
+    let f = fed-more (take (length (x .piece .now) - x .taken) (drop (x .taken) (x .piece .now))) _ (walk .walk .ensures) _ (told .walked2 .given .1) in
+    omega (arith, f .within, f .held, rest-long (x .state) (x .gap) (x .taken) (x .piece .now) (x .window .now) (x .output .now) (start .pre) _ refl, start .pre .within, start .pre .window, start .pre .small, start .pre .fits)
 
--- src/lib.rt:318:17
 part-lay-end : tie.Need-part-lay-end
 part-lay-end c = search needs
 
--- src/lib.rt:318:13
 lay-requires : tie.Need-lay-requires
-lay-requires c κs = ?
+lay-requires c κs =
+    let told = c .before .before .before in
+    let walk = told .before .before in
+    let start = walk .before .before .before .before .before in
+    let x = start .args in
+    let f = fed-more (take (length (x .piece .now) - x .taken) (drop (x .taken) (x .piece .now))) _ (walk .walk .ensures) _ (told .walked2 .given .1) in
+    simp (length-take, length-drop) (omega (arith, f .within, f .held, rest-long (x .state) (x .gap) (x .taken) (x .piece .now) (x .window .now) (x .output .now) (start .pre) _ refl, start .pre .within, start .pre .window, start .pre .small, start .pre .fits))
 
--- src/lib.rt:319:31
 sub-wants-more : tie.Need-sub-wants-more
-sub-wants-more c = ?
+sub-wants-more c =
+    let told = c .before .before .before .before .before .before in
+    let walk = told .before .before in
+    let start = walk .before .before .before .before .before in
+    let x = start .args in
+    let f = fed-more (take (length (x .piece .now) - x .taken) (drop (x .taken) (x .piece .now))) _ (walk .walk .ensures) _ (told .walked2 .given .1) in
+    omega (arith, f .within, f .held, rest-long (x .state) (x .gap) (x .taken) (x .piece .now) (x .window .now) (x .output .now) (start .pre) _ refl, start .pre .within, start .pre .window, start .pre .small, start .pre .fits)
 
--- src/lib.rt:319:48
 add-wants-more : tie.Need-add-wants-more
-add-wants-more c = ?
+add-wants-more c =
+    let told = c .before .before .before .before .before .before in
+    let walk = told .before .before in
+    let start = walk .before .before .before .before .before in
+    let x = start .args in
+    let f = fed-more (take (length (x .piece .now) - x .taken) (drop (x .taken) (x .piece .now))) _ (walk .walk .ensures) _ (told .walked2 .given .1) in
+    omega (arith, f .within, f .held, rest-long (x .state) (x .gap) (x .taken) (x .piece .now) (x .window .now) (x .output .now) (start .pre) _ refl, start .pre .within, start .pre .window, start .pre .small, start .pre .fits)
 
--- src/lib.rt:319:13
 wants-more-requires : tie.Need-wants-more-requires
 wants-more-requires c κs = search needs
 
--- src/lib.rt:306:1
 same-length : tie.Need-same-length
 same-length c = search needs
 
--- src/lib.rt:306:1
 same-length-2 : tie.Need-same-length-2
 same-length-2 c = search needs
 
--- src/lib.rt:306:1
 returns : tie.Need-returns
-returns c = ?
+returns c =
+    let gave = c .before .before .before .before .before in
+    let told = gave .before .before .before .before in
+    let walk = told .before .before in
+    let start = walk .before .before .before .before .before in
+    let x = start .args in
+    let f = fed-message (take (length (x .piece .now) - x .taken) (drop (x .taken) (x .piece .now))) _ (walk .walk .ensures) _ _ _ (told .walked .given .1) in
+    place-given (x .state) (x .gap) (x .taken) (x .piece .now) (x .window .now) (x .output .now) (start .pre) _ refl _ _ _ _ _ _ f (gave .give-from .ensures) (c .gives .ensures)
 
--- src/lib.rt:306:1
 same-length-3 : tie.Need-same-length-3
 same-length-3 c = search needs
 
--- src/lib.rt:306:1
 returns-2 : tie.Need-returns-2
-returns-2 c = ?
+returns-2 c =
+    let rest = c .before .before .before in
+    let told = rest .before .before .before .before in
+    let walk = told .before .before in
+    let start = walk .before .before .before .before .before in
+    let x = start .args in
+    let f = fed-more (take (length (x .piece .now) - x .taken) (drop (x .taken) (x .piece .now))) _ (walk .walk .ensures) _ (told .walked2 .given .1) in
+    place-more (x .state) (x .gap) (x .taken) (x .piece .now) (x .window .now) (x .output .now) (start .pre) _ refl _ _ _ f (rest .lay .ensures) (c .wants-more .ensures)
 
 pub in-place-spec : {M : Type 1} → statement M
 in-place-spec =
