@@ -1,0 +1,9 @@
+pub mod Range
+pub mod Nearest
+pub mod Row
+pub mod Finite
+pub mod Phase
+pub mod Offset
+pub mod Condition
+pub mod Rate
+pub mod Answers
