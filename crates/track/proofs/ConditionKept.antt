@@ -11,6 +11,7 @@ use borrow.Author.Tests.{eqb-true}
 use Rattle.macm.specs.declared.Form.{Form}
 use Rattle.macm.specs.declared.Form.the-variants.{New, Old}
 use Rattle.macm.specs.declared.Observation.{Observation}
+use Rattle.track.specs.declared.Polarity.{Polarity}
 use Rattle.track.specs.declared.Polarity.the-variants.{NotKnown, NotCorrected, NeedsHalfCycle, Undefined}
 use Rattle.track.specs.Condition.{bit, polarityOf, flagsOf, conditionOf}
 use Rattle.track.specs.Answers.{codeIn, worth, conditionIn}
@@ -18,14 +19,11 @@ use Rattle.track.specs.Answers.{codeIn, worth, conditionIn}
 -- every code is carried, the undefined ones too
 pub code-kept : (code : ℕ) → codeIn (polarityOf code) ≡ code
 unfolding polarityOf
-code-kept code = go (eqb code 0) (eqb code 5) (eqb code 7) (eqb-true code 0) (eqb-true code 5) (eqb-true code 7)
+code-kept code = test _ NotKnown _ (eqb-true code _) (test _ NotCorrected _ (eqb-true code _) (test _ NeedsHalfCycle (Undefined code) (eqb-true code _) refl))
   where
-    go : (x y z : Bool) → (x ≡ true → code ≡ 0) → (y ≡ true → code ≡ 5) → (z ≡ true → code ≡ 7)
-        → codeIn (cond x NotKnown (cond y NotCorrected (cond z NeedsHalfCycle (Undefined code)))) ≡ code
-    go true y z a b c = sym (a refl)
-    go false true z a b c = sym (b refl)
-    go false false true a b c = sym (c refl)
-    go false false false a b c = refl
+    test : (t : Bool) (p q : Polarity) → (t ≡ true → code ≡ codeIn p) → codeIn q ≡ code → codeIn (cond t p q) ≡ code
+    test true p q h k = sym (h refl)
+    test false p q h k = k
 
 worth-bit : (k n : ℕ) → worth k (bit k n) ≡ n / 2 ^ k % 2 * 2 ^ k
 worth-bit k n = go (n / 2 ^ k % 2) (mod-lt (n / 2 ^ k) (omega arith))

@@ -76,6 +76,6 @@ module _ (pseudorange : ℕ) (rate : ℤ) (p : pseudorange < 2 ^ 32) (f : SFits 
   -- half a unit of the last place is 2 ^ -28 m below 2 ^ 26 m, and 2 ^ -36 Hz below 2 ^ 18 Hz
   pub row-bounded : Bounded pseudorange rate (rowOf pseudorange rate)
   row-bounded = record {
-    range-near = nearest-within (pos (rangeOf pseudorange)) (10 ^ 6) 26 28 4 (10 ^ 9) refl (lit< tt) (range-below pseudorange p) (lit≤ tt);
-    rate-near = nearest-within rate (10 ^ 4) 18 36 2 (10 ^ 11) refl (lit< tt) (lt-of-le-of-lt rate-small (lit< tt)) (lit≤ tt);
+    range-near = nearest-within (pos (rangeOf pseudorange)) (10 ^ 6) 26 28 _ _ refl (lit< tt) (range-below pseudorange p) (lit≤ tt);
+    rate-near = nearest-within rate (10 ^ 4) 18 36 _ _ refl (lit< tt) (lt-of-le-of-lt rate-small (lit< tt)) (lit≤ tt);
   }

@@ -1,20 +1,16 @@
 -- Bits whose exponent is not all ones are no NaN's, and the float that is read from them is finite and has these very bits. Assumes nothing.
 use mathlib.Core.Path.{_≡_, refl, sym, ap, _∙_, subst}
 use mathlib.Core.Bool.{Bool, true, false, not, _&&_}
-use Prim.Native.Nat.{ℕ, suc, _*_, _/_, _%_, _<_}
+use Prim.Native.Nat.{ℕ, _*_, _/_, _%_, _<_}
 use native.Mathlib.Omega.{arith}
 use lib.Dec.{T, eqb, eqb→eq, not-T}
 use lib.Ieee.{Float, nan, inf, fin, Format, binary32, binary64, hid, ones, top, nanBits, ofBits, toBits}
 use lib.Ieee.Fits.{and-l}
 use lib.Ieee.Scale.{finite}
 use lib.Ieee.Bits.{nanBits-is, toBits-ofBits}
-use Rattle.track.specs.Finite.{HasBits}
+use Rattle.track.specs.Finite.{exponent, HasBits}
 
--- the exponent's field
-abbrev exponent : Format → ℕ → ℕ
-exponent f bits = bits / hid f % suc (ones f)
-
--- taken either way round
+-- the field, taken either way round
 exponent-is : (f : Format) (b : ℕ) → b % top f / hid f ≡ ones f → exponent f b ≡ ones f
 exponent-is binary32 b e = omega arith
 exponent-is binary64 b e = omega arith

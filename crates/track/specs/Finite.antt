@@ -6,9 +6,13 @@ use lib.Dec.{T, eqb}
 use lib.Ieee.{Float, Format, hid, ones, toBits}
 use lib.Ieee.Scale.{finite}
 
--- the exponent's field is all ones, as in every infinity and NaN (`hid` is what the field's lowest bit is worth, `ones` the field when all ones)
+-- the exponent's field, between the sign and the digits (`hid` is what its lowest bit is worth, `ones` the field with every bit set)
+abbrev pub exponent : Format → ℕ → ℕ
+exponent f bits = bits / hid f % suc (ones f)
+
+-- as in every infinity and NaN
 abbrev pub allOnes : Format → ℕ → Bool
-allOnes f bits = eqb (bits / hid f % suc (ones f)) (ones f)
+allOnes f bits = eqb (exponent f bits) (ones f)
 
 -- x is finite and has these very bits
 abbrev pub HasBits : Format → Float → ℕ → Type 0

@@ -12,4 +12,7 @@ use Rattle.track.specs.Finite.{allOnes}
 -- withheld in the old form and if CONDITION bit 2 is clear; else not finite if the exponent is all ones; else the double with the same bits
 abbrev pub phaseOf : Form → Observation → Phase
 phaseOf (Old version) o = Withheld
-phaseOf (New signal tfom) o = cond (bit 2 (o .condition)) (cond (allOnes binary64 (o .phase)) NotFinite (Cycles (ofBits binary64 (o .phase)))) Withheld
+phaseOf (New signal tfom) o =
+    cond (bit 2 (o .condition))
+    (cond (allOnes binary64 (o .phase)) NotFinite (Cycles (ofBits binary64 (o .phase))))
+    Withheld

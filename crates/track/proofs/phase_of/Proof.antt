@@ -4,6 +4,7 @@ use native.Mathlib.Omega.{arith}
 use borrow.Author.Needs.{needs}
 use borrow.Author.Tests.{eq-eqb, ne-eqb}
 use lib.Ieee.{binary64}
+use Rattle.track.specs.Finite.{exponent}
 use Rattle.track.proofs.SameBits.{no-nan, has-bits}
 use Rattle.track.proofs.phase_of.Statement.{statement}
 use Rattle.track.proofs.phase_of.Tie as tie
@@ -25,7 +26,7 @@ returns-2 c =
 returns-3 : tie.Need-returns-3
 returns-3 c =
     let o = c .before .before .before .before .args .observation in
-    (rw (c .before .before .enum-told2 .given .1, eq-eqb (o .condition / 4 % 2) 1 (omega arith), eq-eqb _ _ (c .if2 .taken)), tt)
+    (rw (c .before .before .enum-told2 .given .1, eq-eqb (o .condition / 4 % 2) 1 (omega arith), eq-eqb (exponent binary64 (o .phase)) 0x7FF (c .if2 .taken)), tt)
 
 float-from-bits-cycles : tie.Need-float-from-bits-cycles
 float-from-bits-cycles c = no-nan binary64 _ (c .if2 .left)
@@ -33,7 +34,7 @@ float-from-bits-cycles c = no-nan binary64 _ (c .if2 .left)
 returns-4 : tie.Need-returns-4
 returns-4 c =
     let o = c .before .before .before .before .args .observation in
-    (rw (c .before .before .enum-told2 .given .1, eq-eqb (o .condition / 4 % 2) 1 (omega arith), ne-eqb _ _ (c .if2 .left)), has-bits binary64 _ (c .if2 .left) (omega arith))
+    (rw (c .before .before .enum-told2 .given .1, eq-eqb (o .condition / 4 % 2) 1 (omega arith), ne-eqb (exponent binary64 (o .phase)) 0x7FF (c .if2 .left)), has-bits binary64 (o .phase) (c .if2 .left) (omega arith))
 
 pub phase-of-spec : {M : Type 1} → statement M
 phase-of-spec =
