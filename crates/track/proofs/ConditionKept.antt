@@ -13,8 +13,7 @@ use Rattle.macm.specs.declared.Form.the-variants.{New, Old}
 use Rattle.macm.specs.declared.Observation.{Observation}
 use Rattle.track.specs.declared.Polarity.{Polarity}
 use Rattle.track.specs.declared.Polarity.the-variants.{NotKnown, NotCorrected, NeedsHalfCycle, Undefined}
-use Rattle.track.specs.Condition.{bit, polarityOf, flagsOf, conditionOf}
-use Rattle.track.specs.Answers.{codeIn, worth, conditionIn}
+use Rattle.track.specs.Condition.{bit, polarityOf, flagsOf, conditionOf, codeIn, worth, conditionIn}
 
 -- every code is carried, the undefined ones too
 pub code-kept : (code : ℕ) → codeIn (polarityOf code) ≡ code

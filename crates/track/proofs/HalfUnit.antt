@@ -19,7 +19,7 @@ use lib.Ieee.Scale.{grid, overflow, round-same}
 use lib.Ieee.Bits.{cond-no}
 use lib.Ieee.Positive.{through, first-pos}
 use lib.IntN.{ℤ, pos, negsuc, natAbs, subℕ, _-ℤ_}
-use Rattle.track.specs.Nearest.{withSign, Within}
+use Rattle.track.specs.Row.{withSign, Within}
 
 -- |x - y|: ℕ's subtraction stops at 0, so one of the two is 0
 abbrev pub gap : ℕ → ℕ → ℕ
@@ -243,11 +243,11 @@ by-sign : (t s : Bool) (x y b d : ℕ) → t ≡ s → gap x y * b ≤ d → nat
 by-sign t s x y b d e h =
     subst (λ (u : Bool). natAbs (withSign u x -ℤ withSign s y) * b ≤ d) (sym e) (le-trans (le-of-eq (ap (λ (z : ℕ). z * b) (abs-gap s x y))) h)
 
-abbrev pub below0 : ℤ → Bool
-below0 (pos n) = false
-below0 (negsuc n) = true
+abbrev pub negative : ℤ → Bool
+negative (pos n) = false
+negative (negsuc n) = true
 
-pub within : (x : Float) (z : ℤ) (c a b : ℕ) → Near x (below0 z) (natAbs z) c a b → Within x z c a b
+pub within : (x : Float) (z : ℤ) (c a b : ℕ) → Near x (negative z) (natAbs z) c a b → Within x z c a b
 within nan z c a b v = v
 within (inf t) z c a b v = v
 within (fin t m e) (pos n) c a b v = by-sign t false (m * up e * c) (n * down e) b (a * c * down e) (v .0) (v .1)

@@ -15,9 +15,8 @@ use mir.Syntax.{w32}
 use mir.Val.{SFits, toZ, ofZ}
 use mir.ValLaws.{toZ-ofZ}
 use Rattle.track.specs.declared.PlotRow.{PlotRow}
-use Rattle.track.specs.Nearest.{Within, nearestTo}
 use Rattle.track.specs.Range.{rangeOf}
-use Rattle.track.specs.Row.{rowOf, Bounded}
+use Rattle.track.specs.Row.{nearestTo, Within, rowOf, Bounded}
 use Rattle.track.proofs.HalfUnit.{round-near, weaker, within, quotient}
 
 -- ---- one law for both doubles: z / c, with c a float and z an integer that a double holds

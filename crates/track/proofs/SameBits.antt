@@ -8,7 +8,7 @@ use lib.Ieee.{Float, nan, inf, fin, Format, binary32, binary64, hid, ones, top, 
 use lib.Ieee.Fits.{and-l}
 use lib.Ieee.Scale.{finite}
 use lib.Ieee.Bits.{nanBits-is, toBits-ofBits}
-use Rattle.track.specs.Finite.{exponent, HasBits}
+use Rattle.track.specs.Shown.{exponent, HasBits}
 
 -- the field, taken either way round
 exponent-is : (f : Format) (b : ℕ) → b % top f / hid f ≡ ones f → exponent f b ≡ ones f

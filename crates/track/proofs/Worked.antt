@@ -1,9 +1,9 @@
--- Values that the documents work out, from the definitions: 000's first observation, A's OFFSET, and the phases at the edge. Assumes nothing.
+-- Worked values, from the definitions: 000's first observation, A's OFFSET, the phases at the edge, and the smallest rows. Assumes nothing.
 use Prim.Native.Nat.{ℕ}
 use mathlib.Core.Path.{_≡_, refl}
 use mathlib.Core.Bool.{true, false}
 use lib.IntN.{pos, negsuc}
-use lib.Ieee.{fin, ofBits}
+use lib.Ieee.{fin, ofBits, round}
 use Rattle.units.specs.Units.{lockOf}
 use Rattle.macm.specs.declared.Form.{Form}
 use Rattle.macm.specs.declared.Form.the-variants.{New, Old}
@@ -13,8 +13,9 @@ use Rattle.track.specs.declared.Offset.the-variants.{Metres}
 use Rattle.track.specs.declared.Polarity.the-variants.{NotCorrected}
 use Rattle.track.specs.declared.Condition.the-variants.{Flagged}
 use Rattle.track.specs.Condition.{polarityOf, flagsOf, conditionOf}
-use Rattle.track.specs.Phase.{phaseOf}
-use Rattle.track.specs.Offset.{offsetOf}
+use Rattle.track.specs.Shown.{phaseOf, offsetOf}
+use Rattle.track.specs.Range.{rangeOf}
+use Rattle.track.specs.Row.{rowOf}
 
 abbrev new : Form
 new = New 0 0
@@ -59,3 +60,12 @@ old-form = refl
 pub offset : offsetOf (record { form = new; time = 245370000; offset = 0x407C1000 }) ≡ Metres (fin false 4033 (negsuc 9))
 unfolding ofBits
 offset = refl
+
+-- no sign where there is no rate; 0.009993 m and -0.0001 Hz, as near as doubles are
+pub row-of-nothing : rowOf 0 (pos 0) ≡ record { range = fin false 0 (pos 0); rate = fin false 0 (pos 0) }
+unfolding rangeOf round
+row-of-nothing = refl
+
+pub row-of-least : rowOf 1 (negsuc 0) ≡ record { range = fin false 0x147735C182ECAF (negsuc 58); rate = fin true 0x1A36E2EB1C432D (negsuc 65) }
+unfolding rangeOf round
+row-of-least = refl

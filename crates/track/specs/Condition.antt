@@ -1,5 +1,5 @@
 -- CONDITION, by 000's table 5 in the new form. Definitions only.
-use Prim.Native.Nat.{ℕ, _/_, _%_, _^_}
+use Prim.Native.Nat.{ℕ, _+_, _*_, _/_, _%_, _^_}
 use mathlib.Core.Bool.{Bool, cond}
 use lib.Dec.{eqb}
 use Rattle.macm.specs.declared.Form.{Form}
@@ -39,3 +39,21 @@ flagsOf condition =
 abbrev pub conditionOf : Form → Observation → Condition
 conditionOf (New signal tfom) o = Flagged (flagsOf (o .condition))
 conditionOf (Old version) o = MakerDefined (o .condition)
+
+-- ---- the number of each case: a polarity's code, and CONDITION from all that is said of it
+abbrev pub codeIn : Polarity → ℕ
+codeIn NotKnown = 0
+codeIn NotCorrected = 5
+codeIn NeedsHalfCycle = 7
+codeIn (Undefined code) = code
+
+-- what bit k is worth, if it is set
+abbrev pub worth : ℕ → Bool → ℕ
+worth k set = cond set (2 ^ k) 0
+
+abbrev pub conditionIn : Condition → ℕ
+conditionIn (Flagged f) =
+    worth 0 (f .«satellite_health») + worth 1 (f .«pr_validity») + worth 2 (f .«phase_validity») + worth 3 (f .«rate_validity»)
+    + worth 4 (f .«pr_iono_corrected») + worth 5 (f .«phase_iono_corrected») + worth 6 (f .«pr_tropo_corrected») + worth 7 (f .«phase_tropo_corrected»)
+    + codeIn (f .polarity) * 2 ^ 8 + worth 11 (f .«jam_detect») + f .maker * 2 ^ 12
+conditionIn (MakerDefined condition) = condition

@@ -1,9 +1,5 @@
 pub mod Range
-pub mod Nearest
 pub mod Row
-pub mod Finite
-pub mod Phase
-pub mod Offset
 pub mod Condition
+pub mod Shown
 pub mod Rate
-pub mod Answers

@@ -5,10 +5,8 @@ use macm::Observation;
 ghost use mathlib.Core.Path.{_≡_};
 ghost use Rattle.track.specs.Range.{rangeOf};
 ghost use Rattle.track.specs.Row.{rowOf, Bounded};
-ghost use Rattle.track.specs.Phase.{phaseOf};
-ghost use Rattle.track.specs.Offset.{offsetOf};
 ghost use Rattle.track.specs.Condition.{polarityOf, flagsOf, conditionOf};
-ghost use Rattle.track.specs.Answers.{PhaseShows, OffsetShows};
+ghost use Rattle.track.specs.Shown.{phaseOf, offsetOf, PhaseShows, OffsetShows};
 
 // A row for the plot: range in metres and rate in hertz.
 pub struct PlotRow {
@@ -69,14 +67,14 @@ pub enum Condition {
 
 // ---- range and rate
 
-// The range in whole micrometres, from PR.
+// The range in whole micrometres: 000's printed factor is 9993.08193 of them for each count of PR.
 pub fn range_of(pseudorange: u32) -> u64
     ensures { λ r. ⌜ r ≡ rangeOf pseudorange ⌝ }
 {
     (pseudorange as u64 * 999308193 + 50000) / 100000
 }
 
-// A range is below 2^53 micrometres and RATE below 2^31, so both are doubles exactly, and each division rounds once.
+// The row of PR and RATE. A range is below 2^53 micrometres and RATE below 2^31, so both are doubles exactly, and each division rounds once.
 pub fn plot_row(pseudorange: u32, rate: i32) -> PlotRow
     ensures { λ r. ⌜ (r ≡ rowOf pseudorange rate) × Bounded pseudorange rate r ⌝ }
 {
@@ -89,7 +87,7 @@ pub fn plot_row(pseudorange: u32, rate: i32) -> PlotRow
 
 // ---- phase and OFFSET
 
-// The flag decides first, then whether the exponent, the eleven bits under the sign, is all ones.
+// PHASE, as the form, then the flag, then the exponent allow: the exponent is the eleven bits under the sign.
 pub fn phase_of(form: Form, observation: Observation) -> Phase
     ensures { λ r. ⌜ (r ≡ phaseOf form observation) × PhaseShows r (observation .phase) ⌝ }
 {
@@ -108,7 +106,7 @@ pub fn phase_of(form: Form, observation: Observation) -> Phase
     Phase::Cycles(cycles)
 }
 
-// The exponent of a float is the eight bits under the sign.
+// OFFSET, as its exponent allows: the eight bits under the sign.
 pub fn offset_of(header: Header) -> Offset
     ensures { λ r. ⌜ (r ≡ offsetOf header) × OffsetShows r (header .offset) ⌝ }
 {
@@ -122,6 +120,7 @@ pub fn offset_of(header: Header) -> Offset
 
 // ---- CONDITION
 
+// 1 to 4 and 6 are undefined, and from 8 on no code fits the field's three bits.
 fn polarity_of(code: u8) -> Polarity
     ensures { λ r. ⌜ r ≡ polarityOf code ⌝ }
 {
@@ -133,6 +132,7 @@ fn polarity_of(code: u8) -> Polarity
     }
 }
 
+// Bit k stands for 2^k.
 fn flags_of(condition: u16) -> Flags
     ensures { λ r. ⌜ r ≡ flagsOf condition ⌝ }
 {

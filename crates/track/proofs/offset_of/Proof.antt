@@ -2,7 +2,7 @@
 use native.Mathlib.Omega.{arith}
 use borrow.Author.Tests.{eq-eqb, ne-eqb}
 use lib.Ieee.{binary32}
-use Rattle.track.specs.Finite.{exponent}
+use Rattle.track.specs.Shown.{exponent}
 use Rattle.track.proofs.SameBits.{no-nan, has-bits}
 use Rattle.track.proofs.offset_of.Statement.{statement}
 use Rattle.track.proofs.offset_of.Tie as tie

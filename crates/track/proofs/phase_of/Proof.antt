@@ -4,7 +4,7 @@ use native.Mathlib.Omega.{arith}
 use borrow.Author.Needs.{needs}
 use borrow.Author.Tests.{eq-eqb, ne-eqb}
 use lib.Ieee.{binary64}
-use Rattle.track.specs.Finite.{exponent}
+use Rattle.track.specs.Shown.{exponent}
 use Rattle.track.proofs.SameBits.{no-nan, has-bits}
 use Rattle.track.proofs.phase_of.Statement.{statement}
 use Rattle.track.proofs.phase_of.Tie as tie
