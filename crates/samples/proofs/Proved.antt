@@ -3,8 +3,10 @@ use mathlib.Core.Path.{refl}
 use Rattle.octets.specs.Begins.{fit}
 use Rattle.octets.specs.Checksum.{checksumFrom}
 use Rattle.macm.specs.Check.{verdict, verdictBy, verdictAs, formOf, agrees}
+use Rattle.track.specs.Range.{rangeOf}
+use Rattle.track.specs.Condition.{flagsOf, polarityOf}
 use Rattle.samples.specs.Table.{All, table}
 
 pub samples : All table
-unfolding All verdict verdictBy verdictAs formOf agrees fit checksumFrom
-samples = (refl, (refl, (refl, (refl, (refl, (refl, (refl, (refl, (refl, tt)))))))))
+unfolding All verdict verdictBy verdictAs formOf agrees fit checksumFrom rangeOf flagsOf polarityOf
+samples = (refl, (refl, (refl, (refl, (refl, (refl, (refl, (refl, (refl, (refl, (refl, tt)))))))))))

@@ -1,0 +1,40 @@
+-- Bits whose exponent is not all ones are no NaN's, and the float that is read from them is finite and has these very bits. Assumes nothing.
+use mathlib.Core.Path.{_≡_, refl, sym, ap, _∙_, subst}
+use mathlib.Core.Bool.{Bool, true, false, not, _&&_}
+use Prim.Native.Nat.{ℕ, _*_, _/_, _%_, _<_}
+use native.Mathlib.Omega.{arith}
+use lib.Dec.{T, eqb, eqb→eq, not-T}
+use lib.Ieee.{Float, nan, inf, fin, Format, binary32, binary64, hid, ones, top, nanBits, ofBits, toBits}
+use lib.Ieee.Fits.{and-l}
+use lib.Ieee.Scale.{finite}
+use lib.Ieee.Bits.{nanBits-is, toBits-ofBits}
+use Rattle.track.specs.Shown.{exponent, HasBits}
+
+-- the field, taken either way round
+exponent-is : (f : Format) (b : ℕ) → b % top f / hid f ≡ ones f → exponent f b ≡ ones f
+exponent-is binary32 b e = omega arith
+exponent-is binary64 b e = omega arith
+
+-- the patterns of the infinities and of `nan` have a field that is all ones
+is-finite : (f : Format) (x : Float) → (exponent f (toBits f x) ≡ ones f → ⊥) → T (finite x)
+unfolding toBits
+is-finite binary32 nan h = h refl
+is-finite binary32 (inf true) h = h refl
+is-finite binary32 (inf false) h = h refl
+is-finite binary64 nan h = h refl
+is-finite binary64 (inf true) h = h refl
+is-finite binary64 (inf false) h = h refl
+is-finite f (fin s m e) h = tt
+
+module _ (f : Format) (b : ℕ) (h : exponent f b ≡ ones f → ⊥) where
+  pub no-nan : T (not (nanBits f b))
+  unfolding nanBits
+  no-nan =
+      let t = eqb (b % top f / hid f) (ones f) in
+      let u = not (eqb (b % hid f) 0) in
+      not-T (t && u) (λ (y : T (t && u)). h (exponent-is f b (eqb→eq (b % top f / hid f) (ones f) (and-l t u y))))
+
+  pub has-bits : b < 2 * top f → HasBits f (ofBits f b) b
+  has-bits l =
+      let same : toBits f (ofBits f b) ≡ b = toBits-ofBits f b l (subst (λ (t : Bool). T (not t)) (nanBits-is f b) no-nan) in
+      (same, is-finite f (ofBits f b) (λ e. h (ap (exponent f) (sym same) ∙ e)))

@@ -1,0 +1,71 @@
+-- Worked values, from the definitions: 000's first observation, A's OFFSET, the phases at the edge, and the smallest rows. Assumes nothing.
+use Prim.Native.Nat.{ℕ}
+use mathlib.Core.Path.{_≡_, refl}
+use mathlib.Core.Bool.{true, false}
+use lib.IntN.{pos, negsuc}
+use lib.Ieee.{fin, ofBits, round}
+use Rattle.units.specs.Units.{lockOf}
+use Rattle.macm.specs.declared.Form.{Form}
+use Rattle.macm.specs.declared.Form.the-variants.{New, Old}
+use Rattle.macm.specs.declared.Observation.{Observation}
+use Rattle.track.specs.declared.Phase.the-variants.{Withheld, NotFinite, Cycles}
+use Rattle.track.specs.declared.Offset.the-variants.{Metres}
+use Rattle.track.specs.declared.Polarity.the-variants.{NotCorrected}
+use Rattle.track.specs.declared.Condition.the-variants.{Flagged}
+use Rattle.track.specs.Condition.{polarityOf, flagsOf, conditionOf}
+use Rattle.track.specs.Shown.{phaseOf, offsetOf}
+use Rattle.track.specs.Range.{rangeOf}
+use Rattle.track.specs.Row.{rowOf}
+
+abbrev new : Form
+new = New 0 0
+
+-- the first observation of 000's figure 1, with another PHASE
+abbrev observed : ℕ → Observation
+observed bits = record { sid = 2; condition = 0x053F; cn0 = 0x24; phase = bits; pseudorange = 0x7AB42464; rate = pos 9879081; lock = lockOf 617800 }
+
+-- 000's table 6
+pub condition : conditionOf new (observed 0) ≡ Flagged (record {
+  «satellite_health» = true;
+  «pr_validity» = true;
+  «phase_validity» = true;
+  «rate_validity» = true;
+  «pr_iono_corrected» = true;
+  «phase_iono_corrected» = true;
+  «pr_tropo_corrected» = false;
+  «phase_tropo_corrected» = false;
+  polarity = NotCorrected;
+  «jam_detect» = false;
+  maker = 0;
+})
+unfolding flagsOf polarityOf
+condition = refl
+
+-- -461291.428234963, which is -247653949774287 / 2 ^ 29
+pub phase : phaseOf new (observed 0xC11C27ADB68339E0) ≡ Cycles (fin true 247653949774287 (negsuc 28))
+unfolding ofBits
+phase = refl
+
+pub negative-zero : phaseOf new (observed 0x8000000000000000) ≡ Cycles (fin true 0 (pos 0))
+unfolding ofBits
+negative-zero = refl
+
+pub infinite : phaseOf new (observed 0xFFF0000000000000) ≡ NotFinite
+infinite = refl
+
+pub old-form : phaseOf (Old 2) (observed 0xC11C27ADB68339E0) ≡ Withheld
+old-form = refl
+
+-- 4033 / 1024 m
+pub offset : offsetOf (record { form = new; time = 245370000; offset = 0x407C1000 }) ≡ Metres (fin false 4033 (negsuc 9))
+unfolding ofBits
+offset = refl
+
+-- no sign where there is no rate; 0.009993 m and -0.0001 Hz, as near as doubles are
+pub row-of-nothing : rowOf 0 (pos 0) ≡ record { range = fin false 0 (pos 0); rate = fin false 0 (pos 0) }
+unfolding rangeOf round
+row-of-nothing = refl
+
+pub row-of-least : rowOf 1 (negsuc 0) ≡ record { range = fin false 0x147735C182ECAF (negsuc 58); rate = fin true 0x1A36E2EB1C432D (negsuc 65) }
+unfolding rangeOf round
+row-of-least = refl
