@@ -25,6 +25,6 @@ try() {
 try mixed_sum 1 'src/lib.rt:5:5: error[invalid-operand-type]: expected a number, found `Millis`' 'now + lock'
 try mixed_call 1 'src/lib.rt:5:22: error[mismatched-types]: expected `Millis`, found `LockCount`' 'units::plus(now, lock)'
 try mixed_numbers 1 'error[mismatched-types]: expected `u64`, found `u32`' 'Millis::from_number(now.number() + lock.count())'
-try peeled 1 'PRIVATE' 'units::plus(now, Millis(lock.0 as u64))'
+try peeled 1 'private' 'units::plus(now, Millis(lock.0 as u64))'
 try converted 0 'fn converted::later: proved' 'units::plus(now, units::since_lock(lock))'
 exit $failed

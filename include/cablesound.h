@@ -1,0 +1,142 @@
+/* Cablesound: reads and writes MACM, the GNSS range message of RCC 264-04 (old form) and 264-21 (new form).
+ *
+ * Every function takes all inputs and ends. A refusal is a number of the table below, 0 for none; a refused call changes no byte that was lent, nor
+ * the state, and every other number that it answers is 0. Nobody has to check anything first.
+ *
+ * A buffer is lent for the call alone, as a pointer that is not NULL, also where its length is 0, and that many bytes. Buffers of one call must not
+ * overlap each other or the state. Nothing is kept between calls but what the caller keeps: two threads may use two states at once.
+ */
+#ifndef CABLESOUND_H
+#define CABLESOUND_H
+
+#include <stddef.h>
+#include <stdint.h>
+
+#ifdef __cplusplus
+extern "C" {
+#endif
+
+/* The longest message, which window and output must hold at least; the longest of the old form; the most observations; the longest stream. */
+#define CS_LONGEST 6136
+#define CS_LONGEST_OLD 6135
+#define CS_OBSERVATIONS 255
+#define CS_STREAM_BYTES (UINT64_C(1) << 48)
+
+/* Refusals. Where several hold, a call answers the one that its own comment names first. */
+enum {
+    CS_TOO_SHORT = 1,      /* fewer than 15 bytes */
+    CS_NO_SYNC = 2,        /* the first four bytes are neither sync string */
+    CS_WRONG_LENGTH = 3,   /* the length is not the one that form and count byte require */
+    CS_BAD_CHECKSUM = 4,   /* the checksum is wrong */
+    CS_NO_OBSERVATION = 5, /* no observation has this index */
+    CS_NO_ROOM = 6,        /* the output is too short for the message */
+    CS_WRONG_FORM = 7,     /* a conversion from the wrong form, or to the old form with TYPE other than 0 */
+    CS_SMALL_BUFFER = 8,   /* window or output shorter than CS_LONGEST */
+    CS_BAD_STATE = 9,      /* a state with held above CS_LONGEST, total above CS_STREAM_BYTES, or gap + held above total */
+    CS_ENDED = 10,         /* feeding after the first accepted finish */
+    CS_TOO_LONG = 11,      /* the stream would be longer than CS_STREAM_BYTES */
+    CS_PAST_THE_END = 12   /* the start is past the recording's end */
+};
+
+/* The form of a message. */
+enum { CS_OLD = 1, CS_NEW = 2 };
+
+/* The kind of an answer. cs_found has the last two alone. */
+enum { CS_NEEDS_MORE = 0, CS_MESSAGE = 1, CS_END = 2 };
+
+/* The kind of a phase. */
+enum { CS_WITHHELD = 0, CS_NOT_FINITE = 1, CS_CYCLES = 2 };
+
+/* One reader's state. Keep it for the whole stream and write nothing into it; cs_fresh gives a new one. ended is 0, or anything else. */
+typedef struct { uint64_t held, gap, total, ended; } cs_state;
+
+/* What a stream call answers: the kind; with CS_MESSAGE the length of the message at the front of the output and the gap bytes before it; with CS_END
+ * the gap bytes behind the last message; and how many bytes of the piece were taken, which is all of it with CS_NEEDS_MORE. */
+typedef struct { uint64_t refusal, kind, length, gap, taken; } cs_answer;
+
+/* What cs_next answers: the message's place in the whole recording, its length, the gap bytes before it; at the end the gap bytes that are left. */
+typedef struct { uint64_t refusal, kind, position, length, gap; } cs_found;
+
+/* A header. version is the old form's alone, signal (TYPE) and tfom the new form's; cs_read answers 0 for the other form's. time is in GNSS
+ * milliseconds; offset is OFFSET's 32 bits, a binary32 in metres. */
+typedef struct { uint64_t form, version, signal, tfom, time, offset; } cs_header;
+
+/* An observation. phase is PHASE's 64 bits (cs_phase shows it), lock counts 2 ms (cs_lock_ms). */
+typedef struct {
+    uint64_t sid, condition, cn0, phase, pseudorange;
+    int64_t rate;
+    uint64_t lock;
+} cs_observation;
+
+/* What cs_read answers. present is 1 where there is an observation, 0 at index 0 of a message without any. */
+typedef struct {
+    uint64_t refusal, count, present;
+    cs_header header;
+    cs_observation observation;
+} cs_reading;
+
+/* What a writing call answers: the length of the message at the front of the output. */
+typedef struct { uint64_t refusal, length; } cs_written;
+
+/* A phase: its kind, and the cycles where it has any, else 0. */
+typedef struct { uint64_t kind; double cycles; } cs_cycles;
+
+/* A plot row: range in metres, rate in hertz. */
+typedef struct { double range, rate; } cs_row;
+
+/* Whether these bytes are exactly one message: 0, or 1 to 4. */
+uint64_t cs_check(const uint8_t *message, size_t length);
+
+/* The header, the count and the observation at this index. Refuses with 1 to 4, then 5; index 0 of a message without observations is not refused. */
+cs_reading cs_read(const uint8_t *message, size_t length, size_t index);
+
+/* Writes a message with this header and count zero observations at the front of the output; every byte behind it stays. Refuses with 6. Of each
+ * number in the header the low bits go into its field; a form other than CS_OLD is the new form. */
+cs_written cs_start(uint8_t *output, size_t output_length, cs_header header, uint8_t count);
+
+/* Replaces the observation at this index, and the checksum, in exactly one message. Refuses with 1 to 4, then 5. Of each number in the observation
+ * the low bits go into its field. */
+uint64_t cs_set(uint8_t *message, size_t length, size_t index, cs_observation observation);
+
+/* The old message with this TYPE and TFOM as a new one, at the front of the output; every byte behind it stays. Refuses with 1 to 4, 7, 6. */
+cs_written cs_to_new(const uint8_t *message, size_t length, uint8_t signal, uint8_t tfom, uint8_t *output, size_t output_length);
+
+/* The new message, of TYPE 0, with this VERSION as an old one. Refuses with 1 to 4, 7, 6. */
+cs_written cs_to_old(const uint8_t *message, size_t length, uint8_t version, uint8_t *output, size_t output_length);
+
+/* The next message at or behind the start, in a recording that is all there. Start at 0, then at position + length. Refuses with 12. */
+cs_found cs_next(const uint8_t *recording, size_t length, size_t start);
+
+/* A new reader's state. The window needs nothing in it. */
+cs_state cs_fresh(void);
+
+/* Feeds the next piece of the stream. Window and output have CS_LONGEST bytes or more; the window belongs to the state, and nobody else writes it
+ * between calls. With CS_MESSAGE the message is at the front of the output and the rest of it stays; offer the piece again from taken on. With
+ * CS_NEEDS_MORE feed the next piece. Refuses with 8, 9, 10, 11.
+ *
+ * In flight: 9 says that the state was overwritten, so take a new one with cs_fresh and go on; what the window held is lost. 10 says that the stream
+ * was finished: a new stream needs a new state. 11 says that the state has counted 2^48 bytes: finish it, and go on with a new one. */
+cs_answer cs_feed(cs_state *state, const uint8_t *piece, size_t piece_length, uint8_t *window, size_t window_length, uint8_t *output,
+                  size_t output_length);
+
+/* Says that the stream is over, and gives the messages that are still held, one a call, until it answers CS_END; after that it answers the same end
+ * each time. Refuses with 8, 9. */
+cs_answer cs_finish(cs_state *state, uint8_t *window, size_t window_length, uint8_t *output, size_t output_length);
+
+/* The range in micrometres of a pseudorange as PR has it. */
+uint64_t cs_range_um(uint32_t pseudorange);
+
+/* The milliseconds since lock of a lock count as LOCKTIME has it. */
+uint64_t cs_lock_ms(uint32_t lock);
+
+/* The phase of an observation in a message of this form (CS_OLD, or else the new form). */
+cs_cycles cs_phase(uint64_t form, cs_observation observation);
+
+/* The plot row of a pseudorange and a rate as PR and RATE have them. */
+cs_row cs_plot_row(uint32_t pseudorange, int32_t rate);
+
+#ifdef __cplusplus
+}
+#endif
+
+#endif
