@@ -9,6 +9,7 @@ ghost use Rattle.track.specs.Condition.{polarityOf, flagsOf, conditionOf
 ghost use Rattle.track.specs.Shown.{phaseOf, offsetOf, PhaseShows, OffsetShows};
 
 // A row for the plot: range in metres and rate in hertz.
+#[repr(C)]
 pub struct PlotRow {
     pub range: f64,
     pub rate: f64,

@@ -1,0 +1,45 @@
+-- `board::answer_words` meets its contract. Assumes nothing.
+use borrow.Author.Needs.{needs}
+use Rattle.board.proofs.answer_words.Statement.{statement}
+use Rattle.board.proofs.answer_words.Tie as tie
+
+enum-known-answer : tie.Need-enum-known-answer
+enum-known-answer c = search needs
+
+number-requires : tie.Need-number-requires
+number-requires c κs = search needs
+
+enum-told : tie.Need-enum-told
+enum-told c = search needs
+
+enum-known-answer-2 : tie.Need-enum-known-answer-2
+enum-known-answer-2 c = search needs
+
+enum-known-answer-3 : tie.Need-enum-known-answer-3
+enum-known-answer-3 c = search needs
+
+returns : tie.Need-returns
+returns c = rw (c .before .before .answer .given .1, c .number .ensures)
+
+returns-2 : tie.Need-returns-2
+returns-2 c = rw (c .enum-told .given .1)
+
+returns-3 : tie.Need-returns-3
+returns-3 c = rw (c .before .answer2 .given .1)
+
+returns-4 : tie.Need-returns-4
+returns-4 c = rw (c .before .answer3 .given .1)
+
+pub answer-words-spec : {M : Type 1} → statement M
+answer-words-spec =
+    tie.close
+    (tie.spec
+    enum-known-answer
+    number-requires
+    enum-told
+    enum-known-answer-2
+    enum-known-answer-3
+    returns
+    returns-2
+    returns-3
+    returns-4)
