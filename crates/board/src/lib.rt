@@ -343,10 +343,7 @@ fn phase_words(phase: Phase) -> PhaseWords
             kind: 1,
             cycles: 0.0,
         },
-        Phase::Cycles(cycles) => PhaseWords {
-            kind: 2,
-            cycles,
-        },
+        Phase::Cycles(cycles) => PhaseWords { kind: 2, cycles },
     }
 }
 
@@ -447,7 +444,12 @@ fn finished(state: State, window: &mut [u8], output: &mut [u8]) -> FedWords
 
 // Feeds a reader whose state the host keeps.
 #[no_mangle]
-pub extern "C" fn cs_feed(state: &mut State, piece: &[u8], window: &mut [u8], output: &mut [u8]) -> AnswerWords
+pub extern "C" fn cs_feed(
+    state: &mut State,
+    piece: &[u8],
+    window: &mut [u8],
+    output: &mut [u8],
+) -> AnswerWords
     ensures { λ r. ⌜ (now (state .exit) ≡ feedCall (now (state .entry)) (now (piece .entry)) (now (window .entry)) (now (output .entry)) .state)
         × (r ≡ answerWords (feedCall (now (state .entry)) (now (piece .entry)) (now (window .entry)) (now (output .entry)) .answer) (length (now (piece .entry))))
         × (now (window .exit) ≡ feedCall (now (state .entry)) (now (piece .entry)) (now (window .entry)) (now (output .entry)) .window)
