@@ -188,7 +188,7 @@ fn long_stream(random: &mut Random) -> Vec<u8> {
 /// A state that holds so many bytes and is sound, or is not; its counts stand at their edges more often than chance has them.
 fn state(random: &mut Random, held: u64) -> board::State {
     let total = match random.below(4) {
-        0 => STREAM_BYTES - random.below(7000).min(random.below(7000)) as u64,
+        0 => STREAM_BYTES - random.pick(&[0, 0, 1, 15, 16, 300, 6136]),
         1 => held + random.below(9) as u64,
         _ => held + random.next() % (STREAM_BYTES - held),
     };

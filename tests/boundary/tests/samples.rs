@@ -88,6 +88,14 @@ fn ranges_and_rates() {
     }
 }
 
+/// The remainder that decides about rounding runs through all its values within 100,000 ranges.
+#[test]
+fn every_rounding_of_a_range() {
+    for pseudorange in (0..100_000).chain(u32::MAX - 100_000..=u32::MAX) {
+        assert_eq!(board::range_um(pseudorange), reader::range_um(pseudorange), "PR {pseudorange}");
+    }
+}
+
 #[test]
 fn phases() {
     let seen = |form, condition, phase| {
