@@ -10,8 +10,9 @@ if [ ! -f "$archive" ]; then
     echo "readers: FAILED: no target/staticlib/libboard.a: run 'rt staticlib board' first"
     exit 1
 fi
-if ! CARGO_TARGET_DIR=$root/target/cargo cargo test --offline --locked --quiet -- --nocapture >"$log" 2>&1 </dev/null; then
-    grep -vE '^\.*$|^running ' "$log" | head -n 40
+export CARGO_TARGET_DIR="$root/target/cargo" RUST_BACKTRACE=0
+if ! cargo test --offline --locked --quiet -- --nocapture >"$log" 2>&1 </dev/null; then
+    grep -vE '^\.*$|^running |^test result: ok' "$log" | head -n 40
     echo "readers: FAILED: the whole log is target/readers.log"
     exit 1
 fi

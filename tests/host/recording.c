@@ -1,4 +1,4 @@
-/* Lists the messages of a recording, which it reads in odd pieces as a radio link would hand them on: `recording FILE`, or standard input without FILE.
+/* Lists the messages of a recording: `recording FILE`, or standard input without FILE. It reads in odd pieces, as a radio link would hand them on.
  *
  * An example for firmware: one state for the whole stream, a window and an output that are never freed, and a look at the refusal of every answer.
  */
@@ -16,7 +16,8 @@ static uint64_t behind;
 
 static void print_observation(uint64_t form, const cs_observation *observation) {
     cs_cycles phase = cs_phase(form, *observation);
-    printf("  sid %" PRIu64 " range_um %" PRIu64 " rate %" PRId64, observation->sid, cs_range_um((uint32_t)observation->pseudorange), observation->rate);
+    uint64_t range = cs_range_um((uint32_t)observation->pseudorange);
+    printf("  sid %" PRIu64 " range_um %" PRIu64 " rate %" PRId64, observation->sid, range, observation->rate);
     switch (phase.kind) {
     case CS_CYCLES:
         printf(" phase %.6f\n", phase.cycles);

@@ -1,5 +1,5 @@
-//! `fuzz SECONDS [SEED]`: compares the board with the second reader, with a fresh seed for each case, until the time is over. Without a SEED the clock
-//! gives one. A difference ends it with the command that shows the same case again as the first.
+//! `fuzz SECONDS [SEED]`: compares the board with the second reader, with a fresh seed for each case, until the time is over. Without a SEED the
+//! clock gives one. A difference ends it with the command that shows the same case again.
 
 use boundary::cases::KINDS;
 use std::process::ExitCode;
