@@ -10,8 +10,16 @@ pub const ACCEPTED: u64 = 100;
 /// A kind of case: its name, how it is made and tried, and every outcome that it must have.
 pub struct Kind {
     pub name: &'static str,
-    pub attempt: fn(&mut Random) -> Verdict<u64>,
+    attempt: fn(&mut Random) -> Verdict<u64>,
     pub outcomes: &'static [u64],
+}
+
+impl Kind {
+    /// Tries the case of this seed. The name goes into it, so that no two kinds try the same messages.
+    pub fn case(&self, seed: u64) -> Verdict<u64> {
+        let mixed = self.name.bytes().fold(seed, |mixed, byte| mixed.rotate_left(8) ^ u64::from(byte));
+        (self.attempt)(&mut Random::new(mixed))
+    }
 }
 
 const NEEDS_MORE: u64 = ACCEPTED + board::NEEDS_MORE;
@@ -190,12 +198,12 @@ fn state(random: &mut Random, held: u64) -> board::State {
     let total = match random.below(4) {
         0 => STREAM_BYTES - random.pick(&[0, 0, 1, 15, 16, 300, 6136]),
         1 => held + random.below(9) as u64,
-        _ => held + random.next() % (STREAM_BYTES - held),
+        _ => held + random.number() % (STREAM_BYTES - held),
     };
     let total = total.max(held);
     let gap = match random.below(3) {
         0 => total - held,
-        1 => random.next() % (total - held + 1),
+        1 => random.number() % (total - held + 1),
         _ => (total - held).min(random.below(20) as u64),
     };
     let mut state = board::State { held, gap, total, ended: 0 };

@@ -2,7 +2,6 @@
 
 use boundary::cases::{Kind, KINDS};
 use std::collections::BTreeMap;
-use streams::Random;
 
 const SEED: u64 = 26_421;
 const CASES: u64 = 10_000;
@@ -10,7 +9,7 @@ const CASES: u64 = 10_000;
 fn attempt(kind: &Kind) {
     let mut outcomes = BTreeMap::new();
     for seed in SEED..SEED + CASES {
-        match (kind.attempt)(&mut Random::new(seed)) {
+        match kind.case(seed) {
             Ok(outcome) => *outcomes.entry(outcome).or_insert(0) += 1,
             Err(difference) => panic!("{} with seed {seed}: {difference}; again with: fuzz 0 {seed}", kind.name),
         }

@@ -4,7 +4,7 @@
 mod parts;
 mod random;
 
-pub use parts::{damage, header, letters, message, observation, piece_of_stream, sealed, stream};
+pub use parts::{damage, message, observation, piece_of_stream, stream};
 pub use random::Random;
 
 /// Cuts this many bytes into pieces: all single bytes, all in one, or random lengths with empty pieces among them.

@@ -10,7 +10,7 @@ const LETTERS: [u8; 8] = [0x4D, 0x41, 0x43, 0x32, 0x4D, 0x00, 0x01, 0xFF];
 const STARTS: [&[u8]; 10] = [b"MACMAC2", b"MACMACMACM", b"MACMACM", b"MAC2MACM", b"MMAC2", b"MAMACM", b"MACMACMAC2", b"MAC", b"MACM", b"MAC2"];
 
 /// Bytes that are mostly sync letters.
-pub fn letters(random: &mut Random, length: usize) -> Vec<u8> {
+fn letters(random: &mut Random, length: usize) -> Vec<u8> {
     let mut bytes = Vec::new();
     while bytes.len() < length {
         if random.once_in(3) {
@@ -24,13 +24,13 @@ pub fn letters(random: &mut Random, length: usize) -> Vec<u8> {
 }
 
 /// Writes the checksum into the last byte of what is to be a message.
-pub fn sealed(mut bytes: Vec<u8>) -> Vec<u8> {
+fn sealed(mut bytes: Vec<u8>) -> Vec<u8> {
     let last = bytes.len() - 1;
     bytes[last] = checksum(&bytes[4..last]);
     bytes
 }
 
-pub fn header(random: &mut Random) -> Header {
+fn header(random: &mut Random) -> Header {
     let (time, offset) = (random.edgy() as u32, random.edgy() as u32);
     if random.once_in(2) {
         let version = if random.once_in(3) { random.byte() } else { random.pick(&[0x02, 0x4D]) };

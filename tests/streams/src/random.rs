@@ -5,11 +5,11 @@ pub struct Random(u64);
 impl Random {
     pub fn new(seed: u64) -> Random {
         let mut random = Random(seed.wrapping_mul(0xD134_2543_DE82_EF95));
-        random.next();
+        random.number();
         random
     }
 
-    pub fn next(&mut self) -> u64 {
+    pub fn number(&mut self) -> u64 {
         self.0 = self.0.wrapping_add(0x9E37_79B9_7F4A_7C15);
         let mut mixed = self.0;
         mixed = (mixed ^ (mixed >> 30)).wrapping_mul(0xBF58_476D_1CE4_E5B9);
@@ -19,7 +19,7 @@ impl Random {
 
     /// A number below the bound, which is not 0.
     pub fn below(&mut self, bound: usize) -> usize {
-        (self.next() % bound as u64) as usize
+        (self.number() % bound as u64) as usize
     }
 
     /// True once in so many times.
@@ -28,7 +28,7 @@ impl Random {
     }
 
     pub fn byte(&mut self) -> u8 {
-        (self.next() >> 56) as u8
+        (self.number() >> 56) as u8
     }
 
     pub fn bytes(&mut self, length: usize) -> Vec<u8> {
@@ -54,8 +54,8 @@ impl Random {
             2 => (1 << 31) - 2 + low,
             3 => (1 << 32) - 2 + low,
             4 => (1 << 63) - 2 + low,
-            5 => self.next() >> self.below(64),
-            _ => self.next(),
+            5 => self.number() >> self.below(64),
+            _ => self.number(),
         }
     }
 }

@@ -4,7 +4,6 @@
 use boundary::cases::KINDS;
 use std::process::ExitCode;
 use std::time::{Duration, Instant, SystemTime, UNIX_EPOCH};
-use streams::Random;
 
 fn clock() -> u64 {
     SystemTime::now().duration_since(UNIX_EPOCH).map_or(1, |since| since.as_nanos() as u64)
@@ -30,7 +29,7 @@ fn main() -> ExitCode {
     let mut seed = first;
     loop {
         for kind in &KINDS {
-            if let Err(difference) = (kind.attempt)(&mut Random::new(seed)) {
+            if let Err(difference) = kind.case(seed) {
                 println!("fuzz: {}: {difference}", kind.name);
                 println!("fuzz: FAILED: again with: fuzz 0 {seed}");
                 return ExitCode::FAILURE;
