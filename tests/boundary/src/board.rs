@@ -1,0 +1,182 @@
+//! include/cablesound.h in Rust: its types, its functions, and a safe wrapper of each that lends slices.
+
+#[repr(C)]
+#[derive(Clone, Copy, Debug, Default, PartialEq)]
+pub struct State {
+    pub held: u64,
+    pub gap: u64,
+    pub total: u64,
+    pub ended: u64,
+}
+
+pub const NEEDS_MORE: u64 = 0;
+pub const MESSAGE: u64 = 1;
+pub const END: u64 = 2;
+
+#[repr(C)]
+#[derive(Clone, Copy, Debug, Default, PartialEq)]
+pub struct Answer {
+    pub refusal: u64,
+    pub kind: u64,
+    pub length: u64,
+    pub gap: u64,
+    pub taken: u64,
+}
+
+#[repr(C)]
+#[derive(Clone, Copy, Debug, Default, PartialEq)]
+pub struct Found {
+    pub refusal: u64,
+    pub kind: u64,
+    pub position: u64,
+    pub length: u64,
+    pub gap: u64,
+}
+
+pub const OLD: u64 = 1;
+pub const NEW: u64 = 2;
+
+#[repr(C)]
+#[derive(Clone, Copy, Debug, Default, PartialEq)]
+pub struct Header {
+    pub form: u64,
+    pub version: u64,
+    pub signal: u64,
+    pub tfom: u64,
+    pub time: u64,
+    pub offset: u64,
+}
+
+#[repr(C)]
+#[derive(Clone, Copy, Debug, Default, PartialEq)]
+pub struct Observation {
+    pub sid: u64,
+    pub condition: u64,
+    pub cn0: u64,
+    pub phase: u64,
+    pub pseudorange: u64,
+    pub rate: i64,
+    pub lock: u64,
+}
+
+#[repr(C)]
+#[derive(Clone, Copy, Debug, Default, PartialEq)]
+pub struct Reading {
+    pub refusal: u64,
+    pub count: u64,
+    pub present: u64,
+    pub header: Header,
+    pub observation: Observation,
+}
+
+#[repr(C)]
+#[derive(Clone, Copy, Debug, Default, PartialEq)]
+pub struct Written {
+    pub refusal: u64,
+    pub length: u64,
+}
+
+pub const WITHHELD: u64 = 0;
+pub const NOT_FINITE: u64 = 1;
+pub const CYCLES: u64 = 2;
+
+#[repr(C)]
+#[derive(Clone, Copy, Debug, Default)]
+pub struct Cycles {
+    pub kind: u64,
+    pub cycles: f64,
+}
+
+#[repr(C)]
+#[derive(Clone, Copy, Debug, Default)]
+pub struct Row {
+    pub range: f64,
+    pub rate: f64,
+}
+
+mod raw {
+    use super::*;
+
+    extern "C" {
+        pub fn cs_check(message: *const u8, length: usize) -> u64;
+        pub fn cs_read(message: *const u8, length: usize, index: usize) -> Reading;
+        pub fn cs_start(output: *mut u8, output_length: usize, header: Header, count: u8) -> Written;
+        pub fn cs_set(message: *mut u8, length: usize, index: usize, observation: Observation) -> u64;
+        pub fn cs_to_new(message: *const u8, length: usize, signal: u8, tfom: u8, output: *mut u8, output_length: usize) -> Written;
+        pub fn cs_to_old(message: *const u8, length: usize, version: u8, output: *mut u8, output_length: usize) -> Written;
+        pub fn cs_next(recording: *const u8, length: usize, start: usize) -> Found;
+        pub fn cs_fresh() -> State;
+        pub fn cs_feed(
+            state: *mut State,
+            piece: *const u8,
+            piece_length: usize,
+            window: *mut u8,
+            window_length: usize,
+            output: *mut u8,
+            output_length: usize,
+        ) -> Answer;
+        pub fn cs_finish(state: *mut State, window: *mut u8, window_length: usize, output: *mut u8, output_length: usize) -> Answer;
+        pub fn cs_range_um(pseudorange: u32) -> u64;
+        pub fn cs_lock_ms(lock: u32) -> u64;
+        pub fn cs_phase(form: u64, observation: Observation) -> Cycles;
+        pub fn cs_plot_row(pseudorange: u32, rate: i32) -> Row;
+    }
+}
+
+// A slice's pointer is never null, also where it is empty, and two slices of which one can be written never overlap: that is all the header asks.
+
+pub fn check(message: &[u8]) -> u64 {
+    unsafe { raw::cs_check(message.as_ptr(), message.len()) }
+}
+
+pub fn read(message: &[u8], index: usize) -> Reading {
+    unsafe { raw::cs_read(message.as_ptr(), message.len(), index) }
+}
+
+pub fn start(output: &mut [u8], header: Header, count: u8) -> Written {
+    unsafe { raw::cs_start(output.as_mut_ptr(), output.len(), header, count) }
+}
+
+pub fn set(message: &mut [u8], index: usize, observation: Observation) -> u64 {
+    unsafe { raw::cs_set(message.as_mut_ptr(), message.len(), index, observation) }
+}
+
+pub fn to_new(message: &[u8], signal: u8, tfom: u8, output: &mut [u8]) -> Written {
+    unsafe { raw::cs_to_new(message.as_ptr(), message.len(), signal, tfom, output.as_mut_ptr(), output.len()) }
+}
+
+pub fn to_old(message: &[u8], version: u8, output: &mut [u8]) -> Written {
+    unsafe { raw::cs_to_old(message.as_ptr(), message.len(), version, output.as_mut_ptr(), output.len()) }
+}
+
+pub fn next(recording: &[u8], start: usize) -> Found {
+    unsafe { raw::cs_next(recording.as_ptr(), recording.len(), start) }
+}
+
+pub fn fresh() -> State {
+    unsafe { raw::cs_fresh() }
+}
+
+pub fn feed(state: &mut State, piece: &[u8], window: &mut [u8], output: &mut [u8]) -> Answer {
+    unsafe { raw::cs_feed(state, piece.as_ptr(), piece.len(), window.as_mut_ptr(), window.len(), output.as_mut_ptr(), output.len()) }
+}
+
+pub fn finish(state: &mut State, window: &mut [u8], output: &mut [u8]) -> Answer {
+    unsafe { raw::cs_finish(state, window.as_mut_ptr(), window.len(), output.as_mut_ptr(), output.len()) }
+}
+
+pub fn range_um(pseudorange: u32) -> u64 {
+    unsafe { raw::cs_range_um(pseudorange) }
+}
+
+pub fn lock_ms(lock: u32) -> u64 {
+    unsafe { raw::cs_lock_ms(lock) }
+}
+
+pub fn phase(form: u64, observation: Observation) -> Cycles {
+    unsafe { raw::cs_phase(form, observation) }
+}
+
+pub fn plot_row(pseudorange: u32, rate: i32) -> Row {
+    unsafe { raw::cs_plot_row(pseudorange, rate) }
+}

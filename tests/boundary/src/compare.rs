@@ -1,0 +1,155 @@
+//! One call through the C boundary against the second reader: the whole answer, and every byte that was lent. Each answers the refusal.
+
+use crate::{board, expected, same, same_bytes, Lent, Verdict};
+
+pub fn check(bytes: &[u8]) -> Verdict<u64> {
+    let refusal = board::check(bytes);
+    same("check", refusal, expected::refusal(reader::check(bytes)))?;
+    Ok(refusal)
+}
+
+pub fn read(bytes: &[u8], index: usize) -> Verdict<u64> {
+    let reading = board::read(bytes, index);
+    same(&format!("read at {index}"), reading, expected::reading(reader::read(bytes, index)))?;
+    Ok(reading.refusal)
+}
+
+/// A call that writes: what the board and the second reader answer for equal buffers, and the buffers afterwards.
+fn writes<T: PartialEq + std::fmt::Debug>(
+    what: &str,
+    buffer: &[u8],
+    board: impl FnOnce(&mut [u8]) -> T,
+    reader: impl FnOnce(&mut [u8]) -> T,
+) -> Verdict<T> {
+    let (mut lent, mut copy) = (Lent::new(buffer), buffer.to_vec());
+    let answer = board(lent.lend());
+    same(what, &answer, &reader(&mut copy))?;
+    same_bytes(what, lent.contents(), &copy)?;
+    lent.margins_stand(what)?;
+    Ok(answer)
+}
+
+/// A refusal changes nothing: said of the buffers as such, next to what the second reader does.
+fn unchanged_if_refused(what: &str, refusal: u64, before: &[u8], after: &[u8]) -> Verdict<u64> {
+    if refusal != 0 {
+        same_bytes(&format!("{what}: buffer after refusal {refusal}"), after, before)?;
+    }
+    Ok(refusal)
+}
+
+pub fn start(output: &[u8], header: board::Header, count: u8) -> Verdict<u64> {
+    let mut after = Vec::new();
+    let board = |lent: &mut [u8]| {
+        let written = board::start(lent, header, count);
+        after = lent.to_vec();
+        written
+    };
+    let reader = |copy: &mut [u8]| expected::written(reader::start(copy, expected::header_fields(header), count));
+    let written = writes("start", output, board, reader)?;
+    if written.refusal == 0 {
+        same("check of a started message", board::check(&after[..written.length as usize]), 0)?;
+    }
+    unchanged_if_refused("start", written.refusal, output, &after)
+}
+
+pub fn set(message: &[u8], index: usize, observation: board::Observation) -> Verdict<u64> {
+    let mut after = Vec::new();
+    let board = |lent: &mut [u8]| {
+        let refusal = board::set(lent, index, observation);
+        after = lent.to_vec();
+        refusal
+    };
+    let reader = |copy: &mut [u8]| expected::refusal(reader::set(copy, index, expected::observation_fields(observation)));
+    let refusal = writes("set", message, board, reader)?;
+    if refusal == 0 {
+        let reading = board::read(&after, index);
+        same("read of what was set", reading.observation, expected::observation(expected::observation_fields(observation)))?;
+    }
+    unchanged_if_refused("set", refusal, message, &after)
+}
+
+pub fn to_new(message: &[u8], signal: u8, tfom: u8, output: &[u8]) -> Verdict<u64> {
+    let mut after = Vec::new();
+    let board = |lent: &mut [u8]| {
+        let written = board::to_new(message, signal, tfom, lent);
+        after = lent.to_vec();
+        written
+    };
+    let reader = |copy: &mut [u8]| expected::written(reader::to_new(message, signal, tfom, copy));
+    let written = writes("to the new form", output, board, reader)?;
+    if written.refusal == 0 && signal == 0 {
+        let mut back = vec![0; message.len()];
+        board::to_old(&after[..written.length as usize], message[4], &mut back);
+        same_bytes("there and back", &back, message)?;
+    }
+    unchanged_if_refused("to the new form", written.refusal, output, &after)
+}
+
+pub fn to_old(message: &[u8], version: u8, output: &[u8]) -> Verdict<u64> {
+    let mut after = Vec::new();
+    let board = |lent: &mut [u8]| {
+        let written = board::to_old(message, version, lent);
+        after = lent.to_vec();
+        written
+    };
+    let reader = |copy: &mut [u8]| expected::written(reader::to_old(message, version, copy));
+    let written = writes("to the old form", output, board, reader)?;
+    unchanged_if_refused("to the old form", written.refusal, output, &after)
+}
+
+pub fn next(recording: &[u8], start: usize) -> Verdict<u64> {
+    let found = board::next(recording, start);
+    same(&format!("next from {start}"), found, expected::found(reader::next(recording, start)))?;
+    Ok(found.refusal)
+}
+
+/// The plain reader from message to message, against the division. Answers the number of messages.
+pub fn recording(recording: &[u8]) -> Verdict<usize> {
+    let division = reader::divide(recording);
+    let mut start = 0;
+    for given in &division.given {
+        same("plain reader", board::next(recording, start), expected::found(Ok(reader::Found::Message(*given))))?;
+        start = given.position + given.length;
+    }
+    let end = reader::Found::End { gap: division.rest };
+    same("plain reader's end", board::next(recording, start), expected::found(Ok(end)))?;
+    Ok(division.given.len())
+}
+
+/// The numbers for the track people; doubles are compared by their bits. Answers the kind of the phase.
+pub fn numbers(form: u64, observation: board::Observation) -> Verdict<u64> {
+    let fields = expected::observation_fields(observation);
+    same("range", board::range_um(fields.pseudorange), reader::range_um(fields.pseudorange))?;
+    same("lock", board::lock_ms(fields.lock), reader::lock_ms(fields.lock))?;
+    let row = board::plot_row(fields.pseudorange, fields.rate);
+    let (range, rate) = reader::plot_row(fields.pseudorange, fields.rate);
+    same("plot row", (row.range.to_bits(), row.rate.to_bits()), (range.to_bits(), rate.to_bits()))?;
+    within("range within 4 nm", row.range, reader::range_um(fields.pseudorange).into(), 6, 9, 4)?;
+    within("rate within 2/10^11 Hz", row.rate, fields.rate.into(), 4, 11, 2)?;
+    let phase = board::phase(form, observation);
+    let form = if form == board::OLD { reader::Form::Old } else { reader::Form::New };
+    let expected = match reader::phase(form, &fields) {
+        reader::Phase::Withheld => (board::WITHHELD, 0),
+        reader::Phase::NotFinite => (board::NOT_FINITE, 0),
+        reader::Phase::Cycles(cycles) => (board::CYCLES, cycles.to_bits()),
+    };
+    same("phase", (phase.kind, phase.cycles.to_bits()), expected)?;
+    Ok(phase.kind)
+}
+
+/// Whether a double lies within `most` units of 10^-fine from a whole number of units of 10^-coarse, reckoned in whole numbers.
+fn within(what: &str, double: f64, whole: i128, coarse: u32, fine: u32, most: i128) -> Verdict<()> {
+    let bits = double.to_bits();
+    let exponent = (bits >> 52 & 0x7FF) as i64 - 1075;
+    let mantissa = i128::from(bits & ((1 << 52) - 1) | 1 << 52);
+    if whole == 0 {
+        return same(what, bits, 0);
+    }
+    if !(-100..0).contains(&exponent) {
+        return Err(format!("{what}: {double} for {whole}"));
+    }
+    let signed = if double < 0.0 { -mantissa } else { mantissa };
+    let scale = 1i128 << -exponent;
+    let off = signed * 10i128.pow(fine) - whole * 10i128.pow(fine - coarse) * scale;
+    same(what, off.abs() <= most * scale, true)
+}

@@ -1,0 +1,94 @@
+//! The second reader's answers as the numbers that the header says they cross the C boundary with. What a refusal does not name is 0.
+
+use crate::board;
+use reader::Refusal;
+
+pub fn refusal<T>(answer: Result<T, Refusal>) -> u64 {
+    answer.err().unwrap_or(0)
+}
+
+pub fn written(answer: Result<usize, Refusal>) -> board::Written {
+    match answer {
+        Ok(length) => board::Written { refusal: 0, length: length as u64 },
+        Err(refusal) => board::Written { refusal, length: 0 },
+    }
+}
+
+pub fn header(header: reader::Header) -> board::Header {
+    match header {
+        reader::Header::Old { version, time, offset } => {
+            board::Header { form: board::OLD, version: version.into(), time: time.into(), offset: offset.into(), ..Default::default() }
+        }
+        reader::Header::New { signal, tfom, time, offset } => {
+            board::Header { form: board::NEW, version: 0, signal: signal.into(), tfom: tfom.into(), time: time.into(), offset: offset.into() }
+        }
+    }
+}
+
+pub fn observation(observation: reader::Observation) -> board::Observation {
+    board::Observation {
+        sid: observation.sid.into(),
+        condition: observation.condition.into(),
+        cn0: observation.cn0.into(),
+        phase: observation.phase,
+        pseudorange: observation.pseudorange.into(),
+        rate: observation.rate.into(),
+        lock: observation.lock.into(),
+    }
+}
+
+pub fn reading(answer: Result<reader::Reading, Refusal>) -> board::Reading {
+    match answer {
+        Ok(reading) => board::Reading {
+            refusal: 0,
+            count: reading.count.into(),
+            present: reading.observation.is_some().into(),
+            header: header(reading.header),
+            observation: reading.observation.map(observation).unwrap_or_default(),
+        },
+        Err(refusal) => board::Reading { refusal, ..Default::default() },
+    }
+}
+
+pub fn found(answer: Result<reader::Found, Refusal>) -> board::Found {
+    match answer {
+        Ok(reader::Found::Message(given)) => {
+            board::Found { refusal: 0, kind: board::MESSAGE, position: given.position as u64, length: given.length as u64, gap: given.gap as u64 }
+        }
+        Ok(reader::Found::End { gap }) => board::Found { kind: board::END, gap: gap as u64, ..Default::default() },
+        Err(refusal) => board::Found { refusal, ..Default::default() },
+    }
+}
+
+pub fn answer(answer: Result<reader::Answer, Refusal>) -> board::Answer {
+    match answer {
+        Ok(reader::Answer::NeedsMore { taken }) => board::Answer { kind: board::NEEDS_MORE, taken: taken as u64, ..Default::default() },
+        Ok(reader::Answer::Message { length, gap, taken }) => {
+            board::Answer { refusal: 0, kind: board::MESSAGE, length: length as u64, gap, taken: taken as u64 }
+        }
+        Ok(reader::Answer::End { gap }) => board::Answer { kind: board::END, gap, ..Default::default() },
+        Err(refusal) => board::Answer { refusal, ..Default::default() },
+    }
+}
+
+/// The low bits of each number go into its field, and a form that is not the old one is the new one.
+pub fn header_fields(header: board::Header) -> reader::Header {
+    let (time, offset) = (header.time as u32, header.offset as u32);
+    if header.form == board::OLD {
+        reader::Header::Old { version: header.version as u8, time, offset }
+    } else {
+        reader::Header::New { signal: header.signal as u8, tfom: header.tfom as u8, time, offset }
+    }
+}
+
+pub fn observation_fields(observation: board::Observation) -> reader::Observation {
+    reader::Observation {
+        sid: observation.sid as u8,
+        condition: observation.condition as u16,
+        cn0: observation.cn0 as u8,
+        phase: observation.phase,
+        pseudorange: observation.pseudorange as u32,
+        rate: observation.rate as i32,
+        lock: observation.lock as u32,
+    }
+}

@@ -1,0 +1,127 @@
+//! Buffers that end, or begin, at memory nobody may touch: a call that reads or writes one byte outside of what it is lent ends the program.
+
+use boundary::board;
+use reader::LONGEST;
+use std::ffi::{c_int, c_long, c_void};
+use streams::Random;
+
+const SEED: u64 = 4096;
+const PAGE: usize = 4096;
+const PAGES: usize = 18;
+
+extern "C" {
+    fn mmap(place: *mut c_void, length: usize, protection: c_int, flags: c_int, file: c_int, offset: c_long) -> *mut c_void;
+    fn mprotect(place: *mut c_void, length: usize, protection: c_int) -> c_int;
+    fn munmap(place: *mut c_void, length: usize) -> c_int;
+}
+
+/// Pages that can be written, between two that cannot be touched.
+struct Walled(*mut u8);
+
+impl Walled {
+    fn new() -> Walled {
+        // Nothing may be done with the pages (0) at first; MAP_PRIVATE and MAP_ANONYMOUS are 0x22, PROT_READ and PROT_WRITE 3.
+        unsafe {
+            let place = mmap(std::ptr::null_mut(), (PAGES + 2) * PAGE, 0, 0x22, -1, 0) as *mut u8;
+            assert_ne!(place as isize, -1, "no memory");
+            assert_eq!(mprotect(place.add(PAGE) as *mut c_void, PAGES * PAGE, 3), 0);
+            Walled(place)
+        }
+    }
+
+    /// So many bytes that end, or begin, at a wall, with these contents at their front.
+    fn bytes(&mut self, length: usize, at_the_end: bool, contents: &[u8]) -> &mut [u8] {
+        assert!(length <= PAGES * PAGE && contents.len() <= length);
+        let before = if at_the_end { PAGES * PAGE - length } else { 0 };
+        let bytes = unsafe { std::slice::from_raw_parts_mut(self.0.add(PAGE + before), length) };
+        bytes.fill(0x4D);
+        bytes[..contents.len()].copy_from_slice(contents);
+        bytes
+    }
+}
+
+impl Drop for Walled {
+    fn drop(&mut self) {
+        unsafe { munmap(self.0 as *mut c_void, (PAGES + 2) * PAGE) };
+    }
+}
+
+/// Streams short enough for the pages, from the seed on.
+fn streams_from(seed: u64, number: usize) -> impl Iterator<Item = (Random, Vec<u8>)> {
+    println!("{number} streams at the edges of memory, from seed {seed}");
+    (seed..)
+        .map(|seed| {
+            let mut random = Random::new(seed);
+            let stream = streams::stream(&mut random);
+            (random, stream)
+        })
+        .filter(|(_, stream)| stream.len() <= PAGES * PAGE)
+        .take(number)
+}
+
+#[test]
+fn one_message() {
+    let (mut lent, mut put) = (Walled::new(), Walled::new());
+    for (mut random, _) in streams_from(SEED, 3000) {
+        let mut message = streams::message(&mut random);
+        if random.once_in(3) {
+            message.truncate(random.below(message.len()));
+        }
+        let (end, other) = (random.once_in(2), random.once_in(2));
+        let length = (message.len() + 2).saturating_sub(random.below(4));
+        let (message, output) = (lent.bytes(message.len(), end, &message), put.bytes(length, other, &[]));
+        let refusal = reader::check(message).err().unwrap_or(0);
+        assert_eq!(board::check(message), refusal);
+        board::read(message, random.below(3));
+        board::to_new(message, 0, 0, output);
+        board::to_old(message, 0, output);
+        board::start(output, board::Header { form: random.below(3) as u64, ..Default::default() }, random.below(4) as u8);
+        board::set(message, random.below(3), board::Observation::default());
+        assert_eq!(board::check(message), refusal);
+    }
+}
+
+#[test]
+fn plain_reader() {
+    let mut lent = Walled::new();
+    for (mut random, stream) in streams_from(SEED, 3000) {
+        let recording = lent.bytes(stream.len(), random.once_in(2), &stream);
+        let mut start = 0;
+        let mut messages = 0;
+        loop {
+            let found = board::next(recording, start);
+            if found.kind != board::MESSAGE {
+                break;
+            }
+            messages += 1;
+            start = (found.position + found.length) as usize;
+        }
+        assert_eq!(messages, reader::divide(&stream).given.len());
+    }
+}
+
+#[test]
+fn stream_reader() {
+    let (mut lent, mut held, mut put) = (Walled::new(), Walled::new(), Walled::new());
+    for (mut random, stream) in streams_from(SEED, 1500) {
+        let window = held.bytes(LONGEST + random.below(2) * random.below(100), random.once_in(2), &[]);
+        let output = put.bytes(LONGEST + random.below(2) * random.below(100), random.once_in(2), &[]);
+        let (mut state, mut left, mut messages) = (board::fresh(), &stream[..], 0);
+        for length in streams::cuts(&mut random, stream.len()) {
+            let (mut piece, later) = left.split_at(length);
+            left = later;
+            loop {
+                let answer = board::feed(&mut state, lent.bytes(piece.len(), random.once_in(2), piece), window, output);
+                piece = &piece[answer.taken as usize..];
+                if answer.kind != board::MESSAGE {
+                    break;
+                }
+                messages += 1;
+            }
+        }
+        while board::finish(&mut state, window, output).kind == board::MESSAGE {
+            messages += 1;
+        }
+        assert_eq!(messages, reader::divide(&stream).given.len());
+    }
+}

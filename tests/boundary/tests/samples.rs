@@ -1,0 +1,129 @@
+//! Document 01's sample table and its run lines, through the C boundary.
+
+use boundary::{board, check, numbers, recording, run, Twin};
+use reader::LONGEST;
+
+const A: [u8; 16] = [0x4D, 0x41, 0x43, 0x32, 0x00, 0x00, 0x00, 0x0E, 0xA0, 0x0C, 0x90, 0x40, 0x7C, 0x10, 0x00, 0x1E];
+const B: [u8; 15] = [0x4D, 0x41, 0x43, 0x4D, 0x02, 0x00, 0x0E, 0xA0, 0x0C, 0x90, 0x40, 0x7C, 0x10, 0x00, 0x1C];
+
+fn fresh() -> Twin {
+    Twin::new(board::fresh(), vec![0x32; LONGEST], vec![0x4D; LONGEST])
+}
+
+#[test]
+fn a_fresh_state_is_zero() {
+    assert_eq!(board::fresh(), board::State::default());
+}
+
+#[test]
+fn checks() {
+    let with = |place: usize, byte: u8| {
+        let mut bytes = A;
+        bytes[place] = byte;
+        bytes
+    };
+    assert_eq!(check(&[]).unwrap(), 1);
+    assert_eq!(check(&B[..14]).unwrap(), 1);
+    assert_eq!(check(&A).unwrap(), 0);
+    assert_eq!(check(&B).unwrap(), 0);
+    assert_eq!(check(&with(15, 0x1F)).unwrap(), 4);
+    assert_eq!(check(&with(3, 0x4D)).unwrap(), 3);
+    assert_eq!(check(&with(6, 0x01)).unwrap(), 3);
+    assert_eq!(check(&A[..15]).unwrap(), 3);
+}
+
+#[test]
+fn a_then_b() {
+    let stream = [&A[..], &B].concat();
+    assert_eq!(recording(&stream).unwrap(), 2);
+    let mut twin = fresh();
+    let message = |length, taken| board::Answer { kind: board::MESSAGE, length, taken, ..Default::default() };
+    assert_eq!(twin.feed(&stream).unwrap(), message(16, 16));
+    assert_eq!(twin.output()[..16], A);
+    assert_eq!(twin.feed(&stream[16..]).unwrap(), message(15, 15));
+    assert_eq!(twin.output()[..15], B);
+    assert_eq!(twin.feed(&[]).unwrap(), board::Answer::default());
+    assert_eq!(twin.finish().unwrap(), board::Answer { kind: board::END, ..Default::default() });
+}
+
+#[test]
+fn s12_needs_more_until_it_is_finished() {
+    let stream = [&A[..3], &A].concat();
+    let mut twin = fresh();
+    assert_eq!(twin.feed(&stream).unwrap(), board::Answer { kind: board::NEEDS_MORE, taken: 19, ..Default::default() });
+    assert_eq!(twin.finish().unwrap(), board::Answer { kind: board::MESSAGE, length: 16, gap: 3, ..Default::default() });
+    assert_eq!(twin.output()[..16], A);
+    let end = board::Answer { kind: board::END, ..Default::default() };
+    assert_eq!(twin.finish().unwrap(), end);
+    assert_eq!(twin.finish().unwrap(), end);
+    assert_eq!(board::next(&stream, 0), board::Found { refusal: 0, kind: board::MESSAGE, position: 3, length: 16, gap: 3 });
+}
+
+/// Every cutting of a short stream into three pieces, empty ones included.
+#[test]
+fn overlapping_starts_in_three_pieces() {
+    let streams = [[&b"MACMAC2"[..], &A[4..], &B].concat(), [&b"MACMACMACM"[..], &B[4..], &A].concat(), [&B[..14], &A, b"MACM", &A].concat()];
+    for stream in streams {
+        for first in 0..=stream.len() {
+            for second in first..=stream.len() {
+                run(&stream, &[first, second - first, stream.len() - second], vec![0x43; LONGEST], vec![0x4D; LONGEST]).unwrap();
+            }
+        }
+    }
+}
+
+#[test]
+fn ranges_and_rates() {
+    assert_eq!(board::range_um(1), 9993);
+    assert_eq!(board::range_um(4_294_967_295), 42_919_960_065_605);
+    assert_eq!(board::lock_ms(4_294_967_295), 8_589_934_590);
+    for (bytes, rate) in [([0; 4], 0), ([0xFF; 4], -1), ([0x7F, 0xFF, 0xFF, 0xFF], 2147483647), ([0x80, 0, 0, 0], -2147483648)] {
+        let mut message = [0; 40];
+        let header = board::Header { form: board::NEW, ..Default::default() };
+        assert_eq!(board::start(&mut message, header, 1).length, 40);
+        message[31..35].copy_from_slice(&bytes);
+        message[39] = reader::checksum(&message[4..39]);
+        assert_eq!(board::read(&message, 0).observation.rate, rate);
+        assert_eq!(board::plot_row(0, rate as i32).rate, rate as f64 / 10000.0);
+    }
+}
+
+/// The remainder that decides about rounding runs through all its values within 100,000 ranges.
+#[test]
+fn every_rounding_of_a_range() {
+    for pseudorange in (0..100_000).chain(u32::MAX - 100_000..=u32::MAX) {
+        assert_eq!(board::range_um(pseudorange), reader::range_um(pseudorange), "PR {pseudorange}");
+    }
+}
+
+#[test]
+fn phases() {
+    let seen = |form, condition, phase| {
+        let observation = board::Observation { condition, phase, ..Default::default() };
+        let kind = numbers(form, observation).unwrap();
+        (kind, board::phase(form, observation).cycles.to_bits())
+    };
+    let minus_zero = 1 << 63;
+    assert_eq!(seen(board::NEW, 0x053F, minus_zero), (board::CYCLES, minus_zero));
+    assert_eq!(seen(board::NEW, 0x0004, 1), (board::CYCLES, 1));
+    assert_eq!(seen(board::NEW, 0xFFFB, minus_zero), (board::WITHHELD, 0));
+    assert_eq!(seen(board::OLD, 0xFFFF, 0x7FF8_0000_0000_0000), (board::WITHHELD, 0));
+    for not_finite in [0x7FF0_0000_0000_0000, 0xFFF0_0000_0000_0000, 0x7FF0_0000_0000_0001, 0xFFFF_FFFF_FFFF_FFFF] {
+        assert_eq!(seen(board::NEW, 0x0004, not_finite), (board::NOT_FINITE, 0));
+    }
+    assert_eq!(seen(board::NEW, 0x0004, 0x7FEF_FFFF_FFFF_FFFF), (board::CYCLES, 0x7FEF_FFFF_FFFF_FFFF));
+}
+
+#[test]
+fn sets_on_different_indexes_in_either_order() {
+    let mut message = vec![0; 16 + 24 * 255];
+    board::start(&mut message, board::Header { form: board::NEW, signal: 0x4D, time: 7, ..Default::default() }, 255);
+    let (one, other) = (board::Observation { sid: 1, rate: -1, ..Default::default() }, board::Observation { phase: u64::MAX, ..Default::default() });
+    for (first, second) in [(0, 1), (0, 254), (253, 254), (17, 200)] {
+        let (mut left, mut right) = (message.clone(), message.clone());
+        assert_eq!((board::set(&mut left, first, one), board::set(&mut left, second, other)), (0, 0));
+        assert_eq!((board::set(&mut right, second, other), board::set(&mut right, first, one)), (0, 0));
+        assert_eq!(left, right);
+        assert_eq!(check(&left).unwrap(), 0);
+    }
+}

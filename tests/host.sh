@@ -1,0 +1,45 @@
+#!/bin/sh
+# The C host of tests/host/ reads the published messages and S12 through the C boundary, compiled plainly and with sanitizers, and prints what
+# tests/host/expected.txt says; the header is taken by C and by C++. Needs target/staticlib/libboard.a, which `rt staticlib board` leaves.
+set -u
+root=$(cd "$(dirname "$0")/.." && pwd -P) || exit 2
+cd "$root" || exit 2
+archive=target/staticlib/libboard.a
+work=target/host
+fail() {
+    echo "host: FAILED: $*"
+    exit 1
+}
+[ -f "$archive" ] || fail "no $archive: run 'rt staticlib board' first"
+rm -rf "$work" && mkdir -p "$work" || exit 2
+
+# build NAME OPTION...: the host, under this name, with these options
+build() {
+    name=$1
+    shift
+    gcc -std=c11 -Wall -Wextra -Werror -O2 "$@" -Iinclude tests/host/recording.c "$archive" -o "$work/$name" || fail "$name does not compile"
+}
+
+# listing NAME: what the host of this name prints for every recording, from files and from standard input
+listing() {
+    for recording in 264-21-figure-1 264-04-table-4 264-04-table-4-by-the-rule; do
+        echo "$recording"
+        "$work/$1" "tests/vectors/$recording.bin" || return 1
+    done
+    echo "S12, from standard input"
+    printf 'MACMAC2\000\000\000\016\240\014\220\100\174\020\000\036' | "$work/$1" || return 1
+    echo "nothing, from standard input"
+    "$work/$1" </dev/null
+}
+
+build plain
+build sanitized -g -fsanitize=address,undefined -fno-sanitize-recover=all
+for name in plain sanitized; do
+    listing "$name" >"$work/$name.txt" 2>"$work/$name.err" || fail "$name stops: $(head -n 3 "$work/$name.err")"
+    [ ! -s "$work/$name.err" ] || fail "$name complains: $(head -n 3 "$work/$name.err")"
+    diff tests/host/expected.txt "$work/$name.txt" || fail "$name prints something else than tests/host/expected.txt"
+done
+echo '#include "cablesound.h"' >"$work/header.cpp"
+g++ -std=c++11 -Wall -Wextra -Wpedantic -Werror -fsyntax-only -Iinclude "$work/header.cpp" || fail "the header is no C++"
+gcc -std=c11 -Wall -Wextra -Wpedantic -Werror -fsyntax-only -Iinclude -x c "$work/header.cpp" || fail "the header is no C11 by itself"
+echo "host: the C host prints what it must, plain and with sanitizers; the header is C11 and C++"

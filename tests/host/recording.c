@@ -1,0 +1,130 @@
+/* Lists the messages of a recording: `recording FILE`, or standard input without FILE. It reads in odd pieces, as a radio link would hand them on.
+ *
+ * An example for firmware: one state for the whole stream, a window and an output that are never freed, and a look at the refusal of every answer.
+ */
+#include "cablesound.h"
+
+#include <inttypes.h>
+#include <stdio.h>
+
+/* The window belongs to the reader from cs_fresh to the end. The output has the newest message until the next call. */
+static uint8_t window[CS_LONGEST];
+static uint8_t output[CS_LONGEST];
+
+/* How many bytes of the stream lie behind us, as messages or as gap. */
+static uint64_t behind;
+
+static void print_observation(uint64_t form, const cs_observation *observation) {
+    cs_cycles phase = cs_phase(form, *observation);
+    uint64_t range = cs_range_um((uint32_t)observation->pseudorange);
+    printf("  sid %" PRIu64 " range_um %" PRIu64 " rate %" PRId64, observation->sid, range, observation->rate);
+    switch (phase.kind) {
+    case CS_CYCLES:
+        printf(" phase %.6f\n", phase.cycles);
+        break;
+    case CS_NOT_FINITE:
+        printf(" phase not finite\n");
+        break;
+    default:
+        printf(" phase withheld\n");
+        break;
+    }
+}
+
+/* Prints the message at the front of the output. Answers 0, or the refusal that cs_read gave. */
+static uint64_t print_message(const cs_answer *answer) {
+    size_t length = (size_t)answer->length;
+    cs_reading reading = cs_read(output, length, 0);
+    if (reading.refusal != 0) {
+        return reading.refusal;
+    }
+    printf("at %" PRIu64 " bytes %" PRIu64 " gap %" PRIu64 " form %s count %" PRIu64 " time %" PRIu64 "\n", behind + answer->gap, answer->length,
+           answer->gap, reading.header.form == CS_OLD ? "old" : "new", reading.count, reading.header.time);
+    behind += answer->gap + answer->length;
+
+    /* Index 0 is read already; it has no observation where the count is 0. */
+    uint64_t count = reading.count;
+    for (size_t index = 0; index < count; index++) {
+        reading = cs_read(output, length, index);
+        if (reading.refusal != 0) {
+            return reading.refusal;
+        }
+        print_observation(reading.header.form, &reading.observation);
+    }
+    return 0;
+}
+
+/* Feeds one piece: each call gives at most one message, so the rest of the piece is offered again until the reader needs more. */
+static uint64_t feed(cs_state *state, const uint8_t *piece, size_t length) {
+    size_t taken = 0;
+    for (;;) {
+        cs_answer answer = cs_feed(state, piece + taken, length - taken, window, sizeof window, output, sizeof output);
+        if (answer.refusal != 0) {
+            return answer.refusal;
+        }
+        if (answer.kind != CS_MESSAGE) {
+            return 0;
+        }
+        taken += (size_t)answer.taken;
+        uint64_t refusal = print_message(&answer);
+        if (refusal != 0) {
+            return refusal;
+        }
+    }
+}
+
+/* The stream is over: messages may still be held behind a false start, so this goes on until the end is answered. */
+static uint64_t finish(cs_state *state) {
+    for (;;) {
+        cs_answer answer = cs_finish(state, window, sizeof window, output, sizeof output);
+        if (answer.refusal != 0) {
+            return answer.refusal;
+        }
+        if (answer.kind == CS_END) {
+            printf("end %" PRIu64 " gap %" PRIu64 "\n", state->total, answer.gap);
+            return 0;
+        }
+        uint64_t refusal = print_message(&answer);
+        if (refusal != 0) {
+            return refusal;
+        }
+    }
+}
+
+/* Reads pieces of 1, 7, 509, 64 and 3 bytes in turn until the file ends. */
+static uint64_t list(FILE *file) {
+    static const size_t lengths[] = {1, 7, 509, 64, 3};
+    uint8_t piece[509];
+    cs_state state = cs_fresh();
+    size_t turn = 0, length;
+    while ((length = fread(piece, 1, lengths[turn], file)) > 0) {
+        uint64_t refusal = feed(&state, piece, length);
+        if (refusal != 0) {
+            return refusal;
+        }
+        turn = (turn + 1) % (sizeof lengths / sizeof lengths[0]);
+    }
+    return finish(&state);
+}
+
+int main(int argc, char **argv) {
+    FILE *file = argc > 1 ? fopen(argv[1], "rb") : stdin;
+    if (file == NULL) {
+        perror(argv[1]);
+        return 1;
+    }
+    uint64_t refusal = list(file);
+    int unread = ferror(file);
+    if (file != stdin) {
+        fclose(file);
+    }
+    if (refusal != 0) {
+        fprintf(stderr, "recording: refused with %" PRIu64 "\n", refusal);
+        return 1;
+    }
+    if (unread) {
+        fprintf(stderr, "recording: the file cannot be read to its end\n");
+        return 1;
+    }
+    return 0;
+}

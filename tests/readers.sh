@@ -1,0 +1,26 @@
+#!/bin/sh
+# The second reader against the C boundary: every test of the Rust workspace in tests/, offline. Needs target/staticlib/libboard.a, which
+# `rt staticlib board` leaves. What is built stands in target/cargo.
+set -u
+root=$(cd "$(dirname "$0")/.." && pwd -P) || exit 2
+cd "$root/tests" || exit 2
+archive=$root/target/staticlib/libboard.a
+log=$root/target/readers.log
+if [ ! -f "$archive" ]; then
+    echo "readers: FAILED: no target/staticlib/libboard.a: run 'rt staticlib board' first"
+    exit 1
+fi
+export CARGO_TARGET_DIR="$root/target/cargo" RUST_BACKTRACE=0
+if ! cargo test --offline --locked --quiet -- --nocapture >"$log" 2>&1 </dev/null; then
+    grep -vE '^\.*$|^running |^test result: ok' "$log" | head -n 40
+    echo "readers: FAILED: the whole log is target/readers.log"
+    exit 1
+fi
+# The cases and their seed stand in the lines `KIND: N cases from seed S` that the tests print.
+awk '
+    / cases from seed / { cases += $2; seed = $6 }
+    /^test result: ok/ { passed += $4 }
+    END {
+        if (passed == 0 || cases == 0) { print "readers: FAILED: nothing ran"; exit 1 }
+        print "readers: " passed " tests passed, " cases " cases from seed " seed + 0 ", no difference between the two readers"
+    }' "$log"

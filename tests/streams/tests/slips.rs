@@ -1,0 +1,166 @@
+//! The streams are hostile enough: readers with the slips that people make are told from the right one by them. A slip that went unnoticed here would
+//! go unnoticed behind the C boundary too.
+
+use reader::{check, checksum, divide, feed, finish, Answer, Form, State, LONGEST};
+use streams::{cuts, stream, Random};
+
+const SEED: u64 = 20_041;
+const STREAMS: u64 = 4000;
+
+/// The messages that a reader gives: gap and length of each, and the gap at the end.
+type Given = (Vec<(usize, usize)>, usize);
+
+/// The length that the start at this position claims, if all of it is there.
+fn claim(from: &[u8]) -> Option<usize> {
+    let form = Form::BOTH.into_iter().find(|form| from.starts_with(&form.sync()))?;
+    let length = form.length(*from.get(form.count_place())?);
+    (length <= from.len()).then_some(length)
+}
+
+/// A division in which `valid` decides about a whole claim and `step` how far to go on where no message stands.
+fn divide_with(stream: &[u8], valid: fn(&[u8]) -> bool, step: fn(&[u8]) -> usize) -> Given {
+    let (mut given, mut gap, mut position) = (Vec::new(), 0, 0);
+    while position < stream.len() {
+        let from = &stream[position..];
+        match claim(from).filter(|&length| valid(&from[..length])) {
+            Some(length) => {
+                given.push((gap, length));
+                gap = 0;
+                position += length;
+            }
+            None => {
+                let far = step(from).min(from.len());
+                gap += far;
+                position += far;
+            }
+        }
+    }
+    (given, gap)
+}
+
+fn right(stream: &[u8]) -> Given {
+    let division = divide(stream);
+    (division.given.iter().map(|given| (given.gap, given.length)).collect(), division.rest)
+}
+
+fn valid(whole: &[u8]) -> bool {
+    check(whole).is_ok()
+}
+
+fn one(_: &[u8]) -> usize {
+    1
+}
+
+fn starts(from: &[u8]) -> bool {
+    Form::BOTH.iter().any(|form| from.starts_with(&form.sync()))
+}
+
+/// The number of streams on which a reader differs from the division.
+fn noticed(reader: impl Fn(&[u8], &[usize]) -> Given) -> usize {
+    (0..STREAMS)
+        .filter(|case| {
+            let mut random = Random::new(SEED + case);
+            let stream = stream(&mut random);
+            let pieces = cuts(&mut random, stream.len());
+            reader(&stream, &pieces) != right(&stream)
+        })
+        .count()
+}
+
+fn assert_noticed(slip: &str, times: usize) {
+    println!("seed {SEED}: {slip}: noticed in {times} of {STREAMS} streams");
+    assert!(times >= STREAMS as usize / 100, "{slip}: noticed in {times} of {STREAMS} streams only");
+}
+
+#[test]
+fn the_frame_itself_is_right() {
+    assert_eq!(noticed(|stream, _| divide_with(stream, valid, one)), 0);
+}
+
+#[test]
+fn going_on_behind_the_claim_after_a_bad_checksum() {
+    let step = |from: &[u8]| claim(from).unwrap_or(1);
+    assert_noticed("going on behind the claimed length", noticed(|stream, _| divide_with(stream, valid, step)));
+}
+
+#[test]
+fn skipping_the_sync_letters_after_a_false_start() {
+    let step = |from: &[u8]| if starts(from) { 4 } else { 1 };
+    assert_noticed("skipping the sync letters", noticed(|stream, _| divide_with(stream, valid, step)));
+}
+
+#[test]
+fn skipping_the_letter_at_which_a_start_breaks_off() {
+    let step = |from: &[u8]| if !starts(from) && from.starts_with(b"MA") { 3 } else { 1 };
+    assert_noticed("skipping a broken start", noticed(|stream, _| divide_with(stream, valid, step)));
+}
+
+#[test]
+fn counting_the_sync_into_the_checksum() {
+    let counts = |whole: &[u8]| checksum(whole) == 0;
+    assert_noticed("counting the sync", noticed(|stream, _| divide_with(stream, counts, one)));
+}
+
+#[test]
+fn leaving_version_out_of_the_checksum() {
+    let leaves = |whole: &[u8]| checksum(&whole[5..]) == 0;
+    assert_noticed("leaving out byte 5", noticed(|stream, _| divide_with(stream, leaves, one)));
+}
+
+#[test]
+fn looking_at_the_old_sync_alone() {
+    let old = |whole: &[u8]| check(whole) == Ok(Form::Old);
+    assert_noticed("knowing the old form alone", noticed(|stream, _| divide_with(stream, old, one)));
+}
+
+/// Runs the model over the pieces; `between` may do harm after each piece.
+fn run(stream: &[u8], pieces: &[usize], between: fn(&mut State, &mut [u8])) -> Given {
+    let (mut state, mut window, mut output) = (State::default(), vec![0; LONGEST], vec![0; LONGEST]);
+    let (mut given, mut left) = (Vec::new(), stream);
+    for &length in pieces {
+        let (mut piece, later) = left.split_at(length);
+        left = later;
+        while let Ok(Answer::Message { length, gap, taken }) = feed(&mut state, piece, &mut window, &mut output) {
+            given.push((gap as usize, length));
+            piece = &piece[taken..];
+        }
+        between(&mut state, &mut window);
+    }
+    loop {
+        match finish(&mut state, &mut window, &mut output) {
+            Ok(Answer::Message { length, gap, .. }) => given.push((gap as usize, length)),
+            Ok(Answer::End { gap }) => return (given, gap as usize),
+            other => panic!("finishing answers {other:?}"),
+        }
+    }
+}
+
+#[test]
+fn the_model_gives_the_division() {
+    assert_eq!(noticed(|stream, pieces| run(stream, pieces, |_, _| ())), 0);
+}
+
+#[test]
+fn settling_an_unfinished_message_because_a_piece_ended() {
+    let settle = |state: &mut State, window: &mut [u8]| {
+        state.gap += std::mem::take(&mut state.held);
+        window.fill(0);
+    };
+    assert_noticed("settling at a piece's end", noticed(|stream, pieces| run(stream, pieces, settle)));
+}
+
+#[test]
+fn losing_the_gap_between_calls() {
+    assert_noticed("losing the gap", noticed(|stream, pieces| run(stream, pieces, |state, _| state.gap = 0)));
+}
+
+#[test]
+fn losing_the_last_held_byte() {
+    let lose = |state: &mut State, window: &mut [u8]| {
+        if state.held > 0 {
+            state.held -= 1;
+            window[state.held as usize] = 0;
+        }
+    };
+    assert_noticed("losing a held byte", noticed(|stream, pieces| run(stream, pieces, lose)));
+}
