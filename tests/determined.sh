@@ -1,6 +1,6 @@
 #!/bin/sh
 # Every public function of a library has its theorem NAME-determined in its own crate's proofs/Determined.antt, stated of that function's own contract,
-# or a line `CRATE::NAME: why` under the exceptions of docs/PROMISES.md. This reads text only: that the theorems hold is rt's to say.
+# or, for an entry over a lent struct, of the claim NAME-learnt that is read off its own clauses there; or a line `CRATE::NAME: why` under the exceptions of docs/PROMISES.md. This reads text only: that the theorems hold is rt's to say.
 set -u
 root=$(cd "$(dirname "$0")/.." && pwd -P)
 cd "$root" || exit 2
@@ -11,7 +11,10 @@ for crate in $(sed 's/#.*//; s/:.*//' crates.txt); do
     for name in $(sed -n 's/^ *pub \(extern "C" \)\{0,1\}fn \([a-z0-9_]*\).*/\2/p' "crates/$crate"/src/*.rt); do
         law=$(printf %s "$name" | tr _ -)-determined
         where="$crate\.([A-Za-z_]+\.)*$name"
+        walked=$(printf %s "$name" | tr _ -)-learnt
         if grep -Eq "^pub $law : Determined(By)? $where\.ended (\(λ κs z z′\. SamePart z z′\) )?$where\.Reads\.Learnt$" "$laws" 2>/dev/null; then
+            found=$((found + 1))
+        elif grep -Eq "^abbrev pub $walked : Claim $where\.ended$" "$laws" 2>/dev/null && grep -Eq "^pub $law : Determined $where\.ended $walked$" "$laws"; then
             found=$((found + 1))
         elif ! grep -q "^- \`$crate::$name\`: " docs/PROMISES.md; then
             echo "determined: $crate::$name has no theorem $law and no exception"
