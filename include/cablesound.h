@@ -94,14 +94,14 @@ cs_reading cs_read(const uint8_t *message, size_t length, size_t index);
  * number in the header the low bits go into its field; a form other than CS_OLD is the new form. */
 cs_written cs_start(uint8_t *output, size_t output_length, cs_header header, uint8_t count);
 
-/* Replaces the observation at this index, and the checksum, in exactly one message. Refuses with 1 to 4, then 5. Of each number in the observation
- * the low bits go into its field. */
+/* Replaces the observation at this index, and the checksum, in exactly one message; every other byte stays. Answers 0, or 1 to 4, then 5. Of each
+ * number in the observation the low bits go into its field. */
 uint64_t cs_set(uint8_t *message, size_t length, size_t index, cs_observation observation);
 
 /* The old message with this TYPE and TFOM as a new one, at the front of the output; every byte behind it stays. Refuses with 1 to 4, 7, 6. */
 cs_written cs_to_new(const uint8_t *message, size_t length, uint8_t signal, uint8_t tfom, uint8_t *output, size_t output_length);
 
-/* The new message, of TYPE 0, with this VERSION as an old one. Refuses with 1 to 4, 7, 6. */
+/* The new message, of TYPE 0, with this VERSION as an old one, at the front of the output; every byte behind it stays. Refuses with 1 to 4, 7, 6. */
 cs_written cs_to_old(const uint8_t *message, size_t length, uint8_t version, uint8_t *output, size_t output_length);
 
 /* The next message at or behind the start, in a recording that is all there. Start at 0, then at position + length. Refuses with 12. */
@@ -110,9 +110,10 @@ cs_found cs_next(const uint8_t *recording, size_t length, size_t start);
 /* A new reader's state. The window needs nothing in it. */
 cs_state cs_fresh(void);
 
-/* Feeds the next piece of the stream. Window and output have CS_LONGEST bytes or more; the window belongs to the state, and nobody else writes it
- * between calls. With CS_MESSAGE the message is at the front of the output and the rest of it stays; offer the piece again from taken on. With
- * CS_NEEDS_MORE feed the next piece. Refuses with 8, 9, 10, 11.
+/* Feeds the next piece of the stream, which may be empty. Window and output have CS_LONGEST bytes or more; the window belongs to the state, and nobody
+ * else writes it between calls. It takes the fewest bytes that settle the next message. With CS_MESSAGE the message is at the front of the output and
+ * every byte behind it stays: offer the piece again from taken on. With CS_NEEDS_MORE the output stays as it was: feed the next piece. After both the
+ * bytes held stand at the front of the window, with zeros behind them to its end. Refuses with 8, 9, 10, 11.
  *
  * In flight: 9 says that the state was overwritten, so take a new one with cs_fresh and go on; what the window held is lost. 10 says that the stream
  * was finished: a new stream needs a new state. 11 says that the state has counted 2^48 bytes: finish it, and go on with a new one. */
@@ -120,7 +121,7 @@ cs_answer cs_feed(cs_state *state, const uint8_t *piece, size_t piece_length, ui
                   size_t output_length);
 
 /* Says that the stream is over, and gives the messages that are still held, one a call, until it answers CS_END; after that it answers the same end
- * each time. Refuses with 8, 9. */
+ * each time. It leaves window and output as cs_feed does; at the end the output stays as it was and the window is all zeros. Refuses with 8, 9. */
 cs_answer cs_finish(cs_state *state, uint8_t *window, size_t window_length, uint8_t *output, size_t output_length);
 
 /* The range in micrometres of a pseudorange as PR has it. */
