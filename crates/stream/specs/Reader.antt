@@ -8,7 +8,6 @@ use lib.Dec.{ltb, eqb}
 use Rattle.octets.specs.Parts.{over}
 use Rattle.refusal.specs.declared.Refusal.{Refusal}
 use Rattle.refusal.specs.declared.Refusal.the-variants.{SmallBuffer, BadState, Ended, TooMuch}
-use Rattle.refusal.specs.Numbers.{numberOf}
 use Rattle.stream.specs.declared.State.{State}
 use Rattle.stream.specs.declared.Answer.{Answer}
 use Rattle.stream.specs.declared.Answer.the-variants.{Refused, NeedsMore, Message, End}
@@ -102,10 +101,3 @@ finishBy Open s w o = finishedCall s w o (finish (take (s .held) w) (s .gap))
 
 unfoldable pub finishCall : State → List ℕ → List ℕ → Call
 finishCall s w o = finishBy (checked s (length w) (length o)) s w o
-
--- ---- document 01's number for each case of an answer, and its values
-abbrev pub answerNumber : Answer → ℕ
-answerNumber (Refused r) = numberOf r
-answerNumber NeedsMore = 0
-answerNumber (Message n g t) = 0
-answerNumber (End g) = 0
