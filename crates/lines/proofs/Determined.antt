@@ -9,5 +9,5 @@ put-line-determined κs a z z′ w w′ p q = search both
 pub put-end-determined : Determined lines.put_end.ended lines.put_end.Reads.Learnt
 put-end-determined κs a z z′ w w′ p q = search both
 
-pub put-row-determined : Determined lines.put_row.ended lines.put_row.Reads.Learnt
-put-row-determined κs a z z′ w w′ p q = search both
+pub put-rows-determined : Determined lines.put_rows.ended lines.put_rows.Reads.Learnt
+put-rows-determined κs a z z′ w w′ p q = search both

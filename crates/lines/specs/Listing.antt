@@ -1,7 +1,9 @@
 -- The listing's lines, as 01 has them. Definitions only.
 use Prim.Native.Nat.{ℕ}
 use mathlib.Core.List.{List, [], _∷_, _++_}
+use lib.ListN.{length}
 use Rattle.text.specs.Digits.{decimal}
+use Rattle.macm.specs.Read.{readOf}
 use Rattle.macm.specs.declared.Form.{Form}
 use Rattle.macm.specs.declared.Form.the-variants.{New, Old}
 use Rattle.macm.specs.declared.Header.{Header}
@@ -19,12 +21,16 @@ formText (Old version) = 118 ∷ 49 ∷ 32 ∷ []
 
 -- position, bytes, form, observations, time
 abbrev pub messageText : ℕ → ℕ → Header → ℕ → List ℕ
-messageText position length h count = numberText position ++ (numberText length ++ (formText (h .form) ++ (numberText count ++ (decimal (h .time) ++ (10 ∷ [])))))
+messageText position bytes h count = numberText position ++ (numberText bytes ++ (formText (h .form) ++ (numberText count ++ (decimal (h .time) ++ (10 ∷ [])))))
 
-abbrev pub lineText : ℕ → ℕ → Reading → List ℕ
-lineText position length (Refused r) = []
-lineText position length (HeaderOnly h) = messageText position length h 0
-lineText position length (Observed h count o) = messageText position length h count
+abbrev pub readText : ℕ → ℕ → Reading → List ℕ
+readText position bytes (Refused r) = []
+readText position bytes (HeaderOnly h) = messageText position bytes h 0
+readText position bytes (Observed h count o) = messageText position bytes h count
+
+-- the line of a message m
+abbrev pub lineText : ℕ → List ℕ → List ℕ
+lineText position m = readText position (length m) (readOf m 0)
 
 -- "end ", all bytes, " messages ", all messages, " gap ", all gap bytes
 abbrev pub endText : ℕ → ℕ → ℕ → List ℕ

@@ -1,9 +1,10 @@
 -- The rows for the people who compute the track: one an observation. Definitions only.
-use Prim.Native.Nat.{ℕ}
+use Prim.Native.Nat.{ℕ, zero, suc}
 use mathlib.Core.List.{List, [], _∷_, _++_}
 use Rattle.text.specs.Digits.{digits, decimal, metres, hertz}
 use Rattle.text.specs.Double.{nonfinite, cycles}
 use Rattle.units.specs.Units.{lockMillis, millisIn}
+use Rattle.macm.specs.Read.{readOf}
 use Rattle.macm.specs.declared.Form.{Form}
 use Rattle.macm.specs.declared.Form.the-variants.{New, Old}
 use Rattle.macm.specs.declared.Header.{Header}
@@ -67,3 +68,16 @@ abbrev pub rowText : ℕ → Reading → List ℕ
 rowText position (Refused r) = []
 rowText position (HeaderOnly h) = []
 rowText position (Observed h count o) = observationText position h o
+
+-- the rows of a message m: of its first k observations, and of all
+abbrev pub countIn : Reading → ℕ
+countIn (Refused r) = 0
+countIn (HeaderOnly h) = 0
+countIn (Observed h count o) = count
+
+unfoldable pub rowsUpTo : ℕ → ℕ → List ℕ → List ℕ
+rowsUpTo zero position m = []
+rowsUpTo (suc k) position m = rowsUpTo k position m ++ rowText position (readOf m k)
+
+abbrev pub rowsText : ℕ → List ℕ → List ℕ
+rowsText position m = rowsUpTo (countIn (readOf m 0)) position m

@@ -7,9 +7,11 @@ use macm::Reading;
 use track::Condition;
 use track::Phase;
 use track::Polarity;
+ghost use mathlib.Core.Path.{_≡_};
+ghost use Prim.Native.Nat.{_≤_};
 ghost use Rattle.text.specs.Put.{Puts};
 ghost use Rattle.lines.specs.Listing.{numberText, formText, messageText, lineText, endText};
-ghost use Rattle.lines.specs.Rows.{signalText, headText, rangeText, phaseText, polarityText, conditionText, shownText, rateText, observationText, rowText};
+ghost use Rattle.lines.specs.Rows.{signalText, headText, rangeText, phaseText, polarityText, conditionText, shownText, rateText, observationText, rowText, countIn, rowsText};
 
 // ---- the listing
 
@@ -49,10 +51,12 @@ fn put_message(
     text::put(out, next, b'\n')
 }
 
-// The line of a message, of so many bytes at a position, from what reading it answers: none where it is refused.
-pub fn put_line(out: &mut [u8], at: usize, position: u64, length: u64, reading: Reading) -> usize
-    ensures { λ r. ⌜ Puts (now (out .entry)) at (lineText position length reading) r (now (out .exit)) ⌝ }
+// The line of a message at a position: none where reading it is refused.
+pub fn put_line(out: &mut [u8], at: usize, position: u64, message: &[u8]) -> usize
+    ensures { λ r. ⌜ Puts (now (out .entry)) at (lineText position (now (message .entry))) r (now (out .exit)) ⌝ }
 {
+    let length = message.len() as u64;
+    let reading = macm::read(message, 0);
     match reading {
         Reading::Refused(_) => at,
         Reading::HeaderOnly(header) => put_message(out, at, position, length, header, 0),
@@ -190,8 +194,8 @@ fn put_observation(
     put_rate(out, next, observation)
 }
 
-// The row of an observation of the message at a position, from what reading it answers: none where there is no observation.
-pub fn put_row(out: &mut [u8], at: usize, position: u64, reading: Reading) -> usize
+// The row of an observation, from what reading it answers: none where there is no observation.
+fn put_row(out: &mut [u8], at: usize, position: u64, reading: Reading) -> usize
     ensures { λ r. ⌜ Puts (now (out .entry)) at (rowText position reading) r (now (out .exit)) ⌝ }
 {
     match reading {
@@ -201,4 +205,28 @@ pub fn put_row(out: &mut [u8], at: usize, position: u64, reading: Reading) -> us
             put_observation(out, at, position, header, observation)
         }
     }
+}
+
+fn count_in(reading: Reading) -> usize
+    ensures { λ r. ⌜ (r ≡ countIn reading) × (r ≤ 255) ⌝ }
+{
+    match reading {
+        Reading::Refused(_) => 0,
+        Reading::HeaderOnly(_) => 0,
+        Reading::Observed(_, count, _) => count as usize,
+    }
+}
+
+// The rows of all observations of the message at a position.
+pub fn put_rows(out: &mut [u8], at: usize, position: u64, message: &[u8]) -> usize
+    ensures { λ r. ⌜ Puts (now (out .entry)) at (rowsText position (now (message .entry))) r (now (out .exit)) ⌝ }
+{
+    let count = count_in(macm::read(message, 0));
+    let mut next = at;
+    let mut index = 0;
+    while index < count {
+        next = put_row(out, next, position, macm::read(message, index));
+        index += 1;
+    }
+    next
 }

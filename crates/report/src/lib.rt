@@ -2,12 +2,10 @@
 // blocks. What a line says is proved in `lines`; what a program prints is held to stored output.
 use libc::STDIN_FILENO;
 use libc::STDOUT_FILENO;
-use macm::Reading;
 use stream::Answer;
 use stream::Reply;
 use stream::State;
 ghost use mathlib.Core.Path.{_≡_};
-ghost use Prim.Native.Nat.{_≤_};
 
 // What is printed: a line a message and a last one, or a row an observation.
 enum Kind {
@@ -39,41 +37,10 @@ fn write_out(text: &[u8], waiting: usize) -> bool {
     false
 }
 
-// How many observations a message has.
-fn count_in(reading: Reading) -> usize
-    ensures { λ r. ⌜ r ≤ 255 ⌝ }
-{
-    match reading {
-        Reading::Refused(_) => 0,
-        Reading::HeaderOnly(_) => 0,
-        Reading::Observed(_, count, _) => count as usize,
-    }
-}
-
-// A row for each observation.
-fn put_rows(text: &mut [u8], at: usize, position: u64, message: &[u8]) -> usize {
-    let count = count_in(macm::read(message, 0));
-    let mut next = at;
-    let mut index = 0;
-    while index < count {
-        next = lines::put_row(text, next, position, macm::read(message, index));
-        index += 1;
-    }
-    next
-}
-
 fn put_message(kind: Kind, text: &mut [u8], at: usize, position: u64, message: &[u8]) -> usize {
     match kind {
-        Kind::Messages => {
-            lines::put_line(
-                text,
-                at,
-                position,
-                message.len() as u64,
-                macm::read(message, 0),
-            )
-        }
-        Kind::Observations => put_rows(text, at, position, message),
+        Kind::Messages => lines::put_line(text, at, position, message),
+        Kind::Observations => lines::put_rows(text, at, position, message),
     }
 }
 
