@@ -2,20 +2,16 @@
 // blocks. What a line says is proved in `lines`; what a program prints is held to stored output.
 use libc::STDIN_FILENO;
 use libc::STDOUT_FILENO;
+use std::num::wrapping_add_u64;
 use stream::Answer;
 use stream::Reply;
 use stream::State;
 ghost use mathlib.Core.Path.{_≡_};
 
-// What is printed: a line a message and a last one, or a row an observation.
-enum Kind {
-    Messages,
-    Observations,
-}
-
-// How far the recording is printed: the reader's state, the position behind the last message, the messages, the gap bytes, the bytes of text that wait
-// to be written, the part of the block that is yet to be fed, and whether there is more to do.
+// How far the recording is printed: whether as rows, the reader's state, the position behind the last message, the messages, the gap bytes, the bytes
+// of text that wait to be written, the part of the block that is yet to be fed, and whether there is more to do.
 struct Progress {
+    rows: bool,
     state: State,
     position: u64,
     messages: u64,
@@ -37,33 +33,42 @@ fn write_out(text: &[u8], waiting: usize) -> bool {
     false
 }
 
-fn put_message(kind: Kind, text: &mut [u8], at: usize, position: u64, message: &[u8]) -> usize {
-    match kind {
-        Kind::Messages => lines::put_line(text, at, position, message),
-        Kind::Observations => lines::put_rows(text, at, position, message),
+// A line for the message, or a row for each of its observations.
+fn put_message(progress: Progress, position: u64, message: &[u8], text: &mut [u8]) -> usize {
+    if progress.rows {
+        return lines::put_rows(text, progress.waiting, position, message);
     }
+    lines::put_line(text, progress.waiting, position, message)
 }
 
 // The last line of the listing; rows have none.
-fn put_last(kind: Kind, text: &mut [u8], progress: Progress) -> usize {
+fn put_last(progress: Progress, text: &mut [u8]) -> usize {
     let state = progress.state;
-    let at = progress.waiting;
-    match kind {
-        Kind::Messages => lines::put_end(text, at, state.total, progress.messages, progress.gap),
-        Kind::Observations => at,
+    if progress.rows {
+        return progress.waiting;
     }
+    lines::put_end(
+        text,
+        progress.waiting,
+        state.total,
+        progress.messages,
+        progress.gap,
+    )
 }
 
 // ---- the recording in
 
-// Reads a block: 0 bytes at the end of the input, and where reading fails, which is said.
-fn read_block(block: &mut [u8]) -> usize {
+// Another block: of no bytes at the end of the input, and where reading fails, which is said.
+fn read_on(progress: Progress, block: &mut [u8]) -> Progress {
     let got = libc::read(STDIN_FILENO, block);
     if got < 0 {
         os::fail(b"standard input");
-        return 0;
     }
-    io::count(got, block)
+    Progress {
+        from: 0,
+        end: io::count(got, block),
+        ..progress
+    }
 }
 
 // The bytes of the block from one place up to another.
@@ -76,110 +81,78 @@ fn part(block: &[u8], from: usize, end: usize) -> &[u8] {
     &block[..0]
 }
 
-fn call(over: bool, state: State, piece: &[u8], window: &mut [u8], output: &mut [u8]) -> Reply {
-    if over {
+// A call of the reader, which is finished once a block has no bytes.
+fn call(progress: Progress, block: &[u8], window: &mut [u8], output: &mut [u8]) -> Reply {
+    let state = progress.state;
+    if progress.end == 0 {
         return stream::finish(state, window, output);
     }
-    stream::feed(state, piece, window, output)
+    stream::feed(
+        state,
+        part(block, progress.from, progress.end),
+        window,
+        output,
+    )
 }
 
 // ---- a call's answer
 
-fn moved(progress: Progress, state: State) -> Progress {
+// A message. What waits is written out where it is much, so that a message's text always has room behind it: of 255 rows none takes 250 bytes.
+fn given(progress: Progress, gap: u64, message: &[u8], taken: u64, text: &mut [u8]) -> Progress {
+    let position = wrapping_add_u64(progress.position, gap);
+    let waiting = put_message(progress, position, message, text);
+    let much = waiting > 65536;
     Progress {
-        state,
-        position: progress.position,
-        messages: progress.messages,
-        gap: progress.gap,
-        waiting: progress.waiting,
-        from: progress.from,
-        end: progress.end,
-        going: progress.going,
+        position: wrapping_add_u64(position, message.len() as u64),
+        messages: wrapping_add_u64(progress.messages, 1),
+        gap: wrapping_add_u64(progress.gap, gap),
+        waiting: if much { 0 } else { waiting },
+        from: wrapping_add_u64(progress.from as u64, taken) as usize,
+        going: if much { write_out(text, waiting) } else { true },
+        ..progress
     }
-}
-
-// A message: its line, and the rest of the block. What waits is written out where it is much, so that a message's text always has room behind it: of 255
-// rows none takes 250 bytes.
-fn given(
-    kind: Kind,
-    progress: Progress,
-    gap: u64,
-    message: &[u8],
-    taken: usize,
-    text: &mut [u8],
-) -> Progress {
-    let mut next = progress;
-    let position = std::num::wrapping_add_u64(progress.position, gap);
-    next.position = std::num::wrapping_add_u64(position, message.len() as u64);
-    next.messages = std::num::wrapping_add_u64(progress.messages, 1);
-    next.gap = std::num::wrapping_add_u64(progress.gap, gap);
-    next.from = std::num::wrapping_add_usize(progress.from, taken);
-    let waiting = put_message(kind, text, progress.waiting, position, message);
-    next.waiting = waiting;
-    if waiting > 65536 {
-        next.waiting = 0;
-        next.going = write_out(text, waiting);
-    }
-    next
-}
-
-// Another block.
-fn needs_more(progress: Progress, block: &mut [u8]) -> Progress {
-    let mut next = progress;
-    next.from = 0;
-    next.end = read_block(block);
-    next
 }
 
 // The end: the last line, and all that waits.
-fn ended(kind: Kind, progress: Progress, gap: u64, text: &mut [u8]) -> Progress {
-    let mut next = progress;
-    next.gap = std::num::wrapping_add_u64(progress.gap, gap);
-    next.going = false;
-    let all = put_last(kind, text, next);
+fn ended(progress: Progress, gap: u64, text: &mut [u8]) -> Progress {
+    let last = Progress {
+        gap: wrapping_add_u64(progress.gap, gap),
+        going: false,
+        ..progress
+    };
+    let all = put_last(last, text);
     write_out(text, all);
-    next
+    last
 }
 
 fn turn(
-    kind: Kind,
     progress: Progress,
     block: &mut [u8],
     window: &mut [u8],
     output: &mut [u8],
     text: &mut [u8],
 ) -> Progress {
-    let before = progress.state;
-    let piece = part(block, progress.from, progress.end);
-    let reply = call(progress.end == 0, before, piece, window, output);
+    let reply = call(progress, block, window, output);
     let answer = reply.answer;
-    let after = reply.state;
-    let next = moved(progress, after);
+    let state = reply.state;
+    let next = Progress { state, ..progress };
     match answer {
         Answer::Message { length, gap, taken } => {
-            let message = text::front(output, length as usize);
-            given(kind, next, gap, message, taken as usize, text)
+            given(next, gap, text::front(output, length as usize), taken, text)
         }
-        Answer::NeedsMore => needs_more(next, block),
-        Answer::End { gap } => ended(kind, next, gap, text),
-        Answer::Refused(_) => ended(kind, next, 0, text),
+        Answer::NeedsMore => read_on(next, block),
+        Answer::End { gap } => ended(next, gap, text),
+        Answer::Refused(_) => ended(next, 0, text),
     }
 }
 
 // Calls the reader until there is no more to do. An input has an end, though nothing says so: the turns are counted down from a number that no run uses up.
-fn run(
-    kind: Kind,
-    start: Progress,
-    block: &mut [u8],
-    window: &mut [u8],
-    output: &mut [u8],
-    text: &mut [u8],
-) {
-    let mut progress = needs_more(start, block);
+fn run(start: Progress, block: &mut [u8], window: &mut [u8], output: &mut [u8], text: &mut [u8]) {
+    let mut progress = read_on(start, block);
     let mut turns = u64::MAX;
     while turns > 0 {
         turns -= 1;
-        progress = turn(kind, progress, block, window, output, text);
+        progress = turn(progress, block, window, output, text);
         if !progress.going {
             return;
         }
@@ -187,12 +160,13 @@ fn run(
 }
 
 // Lends the buffers: 64 KiB of the recording, a message's length for the window and for the output, and twice 64 KiB of text.
-fn print_recording(kind: Kind, heading: &[u8]) {
+fn print_recording(rows: bool, heading: &[u8]) {
     let mut block = [0u8; 65536];
     let mut window = [0u8; 6136];
     let mut output = [0u8; 6136];
     let mut text = [0u8; 131072];
     let start = Progress {
+        rows,
         state: stream::fresh(),
         position: 0,
         messages: 0,
@@ -202,22 +176,20 @@ fn print_recording(kind: Kind, heading: &[u8]) {
         end: 0,
         going: true,
     };
-    run(kind, start, &mut block, &mut window, &mut output, &mut text);
+    run(start, &mut block, &mut window, &mut output, &mut text);
 }
 
 // The listing of document 01.
 pub fn listing()
     ensures { λ r. ⌜ r ≡ tt ⌝ }
 {
-    print_recording(Kind::Messages, b"at bytes form obs time\n");
+    print_recording(false, b"at bytes form obs time\n");
 }
 
 // The rows for the people who compute the track.
 pub fn rows()
     ensures { λ r. ⌜ r ≡ tt ⌝ }
 {
-    print_recording(
-        Kind::Observations,
-        b"at time form type sid cn0 condition range phase bits polarity rate lock\n",
-    );
+    let heading = b"at time form type sid cn0 condition range phase bits polarity rate lock\n";
+    print_recording(true, heading);
 }

@@ -6,18 +6,18 @@ use Rattle.report.proofs.run.Statement.{statement}
 use Rattle.report.proofs.run.Tie as tie
 use Rattle.report.proofs.run.Reads as reads
 use Rattle.report.proofs.run.Lts as lts
-use Rattle.report.proofs.needs_more.Reads as needs-more-reads
+use Rattle.report.proofs.read_on.Reads as read-on-reads
 use Rattle.report.proofs.turn.Reads as turn-reads
 
 abbrev Inv-loop : tie.InvT-loop
-Inv-loop kind block₀ window₀ output₀ text₀ progress₀ turns₀ block window output text progress turns =
+Inv-loop block₀ window₀ output₀ text₀ progress₀ turns₀ block window output text progress turns =
     (length block ≡ length block₀) × (length window ≡ length window₀) × (length output ≡ length output₀) × (length text ≡ length text₀)
 
 abbrev μ-loop : tie.MeasureT-loop
-μ-loop kind block₀ window₀ output₀ text₀ progress₀ turns₀ block window output text progress turns = turns
+μ-loop block₀ window₀ output₀ text₀ progress₀ turns₀ block window output text progress turns = turns
 
-needs-more-requires : tie.Need-needs-more-requires Inv-loop μ-loop
-needs-more-requires c κs = search needs
+read-on-requires : tie.Need-read-on-requires Inv-loop μ-loop
+read-on-requires c κs = search needs
 
 loop-holds : tie.Need-loop-holds Inv-loop μ-loop
 loop-holds c = search needs
@@ -70,7 +70,7 @@ run-spec =
     (tie.spec
     Inv-loop
     μ-loop
-    needs-more-requires
+    read-on-requires
     loop-holds
     sub-turns
     turn-requires
