@@ -54,17 +54,23 @@ fn digit(d: u64) -> u8
     if d < 10 { 48 + d as u8 } else { 55 + d as u8 }
 }
 
-// The last `width` digits of n, from the last one down, so that no byte is written twice.
+// The last `width` digits of n, two at a time from the last ones down: the next two wait for one division.
 fn spell(out: &mut [u8], at: usize, n: u64, base: u64, width: usize)
     requires { ⌜ (0 < base) × (base ≤ 16) × (at ≤ length (now out)) × (width ≤ 255) ⌝ }
     ensures { λ _. ⌜ now (out .exit) ≡ written (now (out .entry)) at (digits base width n) ⌝ }
 {
+    let square = base * base;
     let mut rest = n;
     let mut i = width;
-    while 0 < i {
-        i -= 1;
-        put(out, at + i, digit(rest % base));
-        rest = rest / base;
+    while 1 < i {
+        i -= 2;
+        let pair = rest % square;
+        put(out, at + i + 1, digit(pair % base));
+        put(out, at + i, digit(pair / base));
+        rest = rest / square;
+    }
+    if i == 1 {
+        put(out, at, digit(rest % base));
     }
 }
 
@@ -83,17 +89,26 @@ fn put_digits(out: &mut [u8], at: usize, n: u64, base: u64, width: usize) -> usi
     at + width
 }
 
-// How many decimal digits n needs.
+// How many decimal digits n needs: four at a time, then the last ones.
 fn width_of(n: u64) -> usize
     ensures { λ r. ⌜ (r ≡ needed 20 n) × (r ≤ 20) ⌝ }
 {
     let mut rest = n;
     let mut width = 1;
-    while 10 <= rest {
-        rest = rest / 10;
-        width += 1;
+    while 10000 <= rest {
+        rest = rest / 10000;
+        width += 4;
     }
-    width
+    if rest < 10 {
+        return width;
+    }
+    if rest < 100 {
+        return width + 1;
+    }
+    if rest < 1000 {
+        return width + 2;
+    }
+    width + 3
 }
 
 // A whole number in decimal.
