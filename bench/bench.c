@@ -293,6 +293,9 @@ int main(int argc, char **argv) {
     for (int i = 0; i < MEASURED; i++) {
         ratios[i] = measure_all(&streams[i], folder, program, &feed);
     }
+    if (program == NULL) {
+        printf("no listing program was given: the listing is not measured\n");
+    }
     for (int i = 0; i < MEASURED; i++) {
         missed += ratios[i] < streams[i].target;
         printf("%s: %.2f of the C at least (whole, 4096%s), to reach %.1f: %s\n", streams[i].name, ratios[i], program == NULL ? "" : ", listing",
