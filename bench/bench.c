@@ -33,21 +33,10 @@ typedef struct {
 static stream streams[] = {
     {"clean", stream_clean, 1 << 20, 32 << 20, 1.3, NULL},
     {"noise", stream_noise, 1 << 20, 32 << 20, 1.0, NULL},
-    {"hostile", stream_hostile, 256 << 10, 256 << 10, 10, NULL},
+    {"hostile", stream_hostile, 256 << 10, 512 << 10, 10, NULL},
     {"mixed", stream_mixed, 1 << 20, 1 << 20, 0, NULL},
 };
 enum { MEASURED = 3, ALL = 4 };
-
-/* How a stream is cut. The ratio has to be reached where a piece is as long as one that a program reads: in small pieces the time is that of a call,
- * which has its own target. */
-typedef struct {
-    const char *name;
-    size_t length;
-    int judged;
-} cutting;
-
-static const cutting cuttings[] = {{"whole", SIZE_MAX, 1}, {"4096", 4096, 1}, {"64", 64, 0}, {"1", 1, 0}};
-enum { CUTTINGS = 4 };
 
 /* The most nanoseconds that a feed of one byte may take. */
 static const double FEED_TARGET = 150;
@@ -60,6 +49,15 @@ typedef struct {
 
 /* Runs a reader over bytes in pieces of so many. */
 typedef void run(const uint8_t *bytes, size_t length, size_t piece, tally *t);
+
+/* One way to go over a stream. The ratio has to be reached where a piece is as long as one that a program reads: in small pieces the time is that of
+ * a call, which has its own target. */
+typedef struct {
+    const char *name;
+    size_t piece;
+    run *library;
+    int judged;
+} way;
 
 /* The best seconds of the library and of the C. */
 typedef struct {
@@ -107,6 +105,18 @@ static void run_library(const uint8_t *bytes, size_t length, size_t piece, tally
     t->gaps += answer.gap;
 }
 
+/* The plain reader, which takes the stream as one recording, whatever the piece. */
+static void run_plain(const uint8_t *bytes, size_t length, size_t piece, tally *t) {
+    cs_found found;
+    (void)piece;
+    for (size_t at = 0; (found = cs_next(bytes, length, at)).kind == CS_MESSAGE; at = (size_t)(found.position + found.length)) {
+        note(t, bytes + found.position, (size_t)found.length, found.gap);
+        t->calls++;
+    }
+    t->calls++;
+    t->gaps += found.gap;
+}
+
 static void run_c(const uint8_t *bytes, size_t length, size_t piece, tally *t) {
     static reader r;
     reader_message message;
@@ -127,17 +137,22 @@ static void run_c(const uint8_t *bytes, size_t length, size_t piece, tally *t) {
     t->gaps += r.gap;
 }
 
-/* ---- the stream reader */
+static const way ways[] = {
+    {"whole", SIZE_MAX, run_library, 1}, {"4096", 4096, run_library, 1}, {"64", 64, run_library, 0}, {"1", 1, run_library, 0}, {"cs_next", SIZE_MAX, run_plain, 0},
+};
+enum { WAYS = 5, LISTING = WAYS, ROWS = WAYS + 1 };
 
-static void compare(const stream *s, const cutting *cut) {
+/* ---- in memory */
+
+static void compare(const stream *s, const way *w) {
     tally library = {0, 0, 0, 0, 1}, c = {0, 0, 0, 0, 1};
-    run_library(s->bytes, s->fed, cut->length, &library);
-    run_c(s->bytes, s->fed, cut->length, &c);
+    w->library(s->bytes, s->fed, w->piece, &library);
+    run_c(s->bytes, s->fed, w->piece, &c);
     if (library.messages != c.messages || library.gaps != c.gaps || library.digest != c.digest) {
         fprintf(stderr,
-                "bench: %s in pieces (%s): the library gives %" PRIu64 " messages, %" PRIu64 " gap bytes, digest %016" PRIx64 ", the C %" PRIu64 ", %" PRIu64
+                "bench: %s (%s): the library gives %" PRIu64 " messages, %" PRIu64 " gap bytes, digest %016" PRIx64 ", the C %" PRIu64 ", %" PRIu64
                 ", %016" PRIx64 "\n",
-                s->name, cut->name, library.messages, library.gaps, library.digest, c.messages, c.gaps, c.digest);
+                s->name, w->name, library.messages, library.gaps, library.digest, c.messages, c.gaps, c.digest);
         exit(2);
     }
 }
@@ -148,10 +163,10 @@ static double cpu_seconds(void) {
     return (double)now.tv_sec + (double)now.tv_nsec / 1e9;
 }
 
-static double seconds_of(run *reader, const stream *s, const cutting *cut, uint64_t *calls) {
+static double seconds_of(run *reader, const stream *s, const way *w, uint64_t *calls) {
     tally t = {0, 0, 0, 0, 0};
     double before = cpu_seconds();
-    reader(s->bytes, s->fed, cut->length, &t);
+    reader(s->bytes, s->fed, w->piece, &t);
     double taken = cpu_seconds() - before;
     *calls = t.calls;
     return taken;
@@ -168,18 +183,18 @@ static double print_row(const char *name, const char *how, size_t length, times 
     return ratio;
 }
 
-/* Prints the row; answers the ratio, and in `feed` the nanoseconds of a feed. */
-static double measure(const stream *s, const cutting *cut, double *feed) {
+/* Prints the row; answers the ratio, and in `call` the nanoseconds of a call. */
+static double measure(const stream *s, const way *w, double *call) {
     times best = {1e9, 1e9};
     uint64_t calls = 0, none;
     double begin = cpu_seconds();
     for (int round = 0; round < ROUNDS || cpu_seconds() - begin < SECONDS; round++) {
-        best.library = lesser(best.library, seconds_of(run_library, s, cut, &calls));
-        best.c = lesser(best.c, seconds_of(run_c, s, cut, &none));
+        best.library = lesser(best.library, seconds_of(w->library, s, w, &calls));
+        best.c = lesser(best.c, seconds_of(run_c, s, w, &none));
     }
-    *feed = best.library * 1e9 / (double)calls;
-    double ratio = print_row(s->name, cut->name, s->fed, best);
-    printf(" %12.1f\n", *feed);
+    *call = best.library * 1e9 / (double)calls;
+    double ratio = print_row(s->name, w->name, s->fed, best);
+    printf(" %12.1f\n", *call);
     return ratio;
 }
 
@@ -256,8 +271,8 @@ static void make_streams(void) {
 
 static void compare_all(const char *folder, const char *program) {
     for (int i = 0; i < ALL; i++) {
-        for (int j = 0; j < CUTTINGS; j++) {
-            compare(&streams[i], &cuttings[j]);
+        for (int j = 0; j < WAYS; j++) {
+            compare(&streams[i], &ways[j]);
         }
         if (program != NULL) {
             compare_listings(&streams[i], folder, program);
@@ -265,19 +280,33 @@ static void compare_all(const char *folder, const char *program) {
     }
 }
 
-/* Prints the rows of a stream; answers the least ratio that is judged, and leaves the most nanoseconds of a feed of one byte in `feed`. */
-static double measure_all(const stream *s, const char *folder, const char *program, double *feed) {
-    double least = 1e9, taken;
-    for (int j = 0; j < CUTTINGS; j++) {
-        double ratio = measure(s, &cuttings[j], &taken);
-        if (cuttings[j].judged) {
-            least = lesser(least, ratio);
-        }
-        if (cuttings[j].length == 1 && *feed < taken) {
-            *feed = taken;
+/* Prints the rows of a stream and leaves their ratios; answers the nanoseconds of a feed of one byte. */
+static double measure_all(const stream *s, const char *folder, const char *program, double *ratios) {
+    double feed = 0, call;
+    for (int j = 0; j < WAYS; j++) {
+        ratios[j] = measure(s, &ways[j], &call);
+        if (ways[j].piece == 1) {
+            feed = call;
         }
     }
-    return program == NULL ? least : lesser(least, measure_listing(s, folder, program));
+    if (program != NULL) {
+        ratios[LISTING] = measure_listing(s, folder, program);
+    }
+    return feed;
+}
+
+/* Says whether a stream's target is reached in every row that is judged; answers 1 where it is missed. */
+static int judge(const stream *s, const double *ratios, int listing) {
+    int missed = 0;
+    printf("%s, to reach %.1f of the C:", s->name, s->target);
+    for (int j = 0; j < ROWS; j++) {
+        if (j == LISTING ? listing : ways[j].judged) {
+            printf(" %s %.2f,", j == LISTING ? "listing" : ways[j].name, ratios[j]);
+            missed |= ratios[j] < s->target;
+        }
+    }
+    printf(" %s\n", missed ? "MISSED" : "reached");
+    return missed;
 }
 
 int main(int argc, char **argv) {
@@ -285,23 +314,22 @@ int main(int argc, char **argv) {
         stop("it is run as bench FOLDER [LISTING]");
     }
     const char *folder = argv[1], *program = argc > 2 ? argv[2] : NULL;
-    double ratios[MEASURED], feed = 0;
+    double ratios[MEASURED][ROWS], feed = 0;
     int missed = 0;
     make_streams();
     compare_all(folder, program);
-    printf("%-8s %-8s %10s %10s %8s %12s\n", "stream", "pieces", "MB/s", "C's MB/s", "ratio", "ns a feed");
+    printf("%-8s %-8s %10s %10s %8s %12s\n", "stream", "pieces", "MB/s", "C's MB/s", "ratio", "ns a call");
     for (int i = 0; i < MEASURED; i++) {
-        ratios[i] = measure_all(&streams[i], folder, program, &feed);
+        double one = measure_all(&streams[i], folder, program, ratios[i]);
+        feed = one > feed ? one : feed;
     }
     if (program == NULL) {
         printf("no listing program was given: the listing is not measured\n");
     }
     for (int i = 0; i < MEASURED; i++) {
-        missed += ratios[i] < streams[i].target;
-        printf("%s: %.2f of the C at least (whole, 4096%s), to reach %.1f: %s\n", streams[i].name, ratios[i], program == NULL ? "" : ", listing",
-               streams[i].target, ratios[i] < streams[i].target ? "MISSED" : "reached");
+        missed |= judge(&streams[i], ratios[i], program != NULL);
     }
-    missed += feed >= FEED_TARGET;
-    printf("a feed of one byte: %.1f ns at most, to stay under %.0f: %s\n", feed, FEED_TARGET, feed >= FEED_TARGET ? "MISSED" : "reached");
-    return missed > 0;
+    missed |= feed >= FEED_TARGET;
+    printf("a feed of one byte, to stay under %.0f ns: %.1f ns, %s\n", FEED_TARGET, feed, feed >= FEED_TARGET ? "MISSED" : "reached");
+    return missed;
 }
