@@ -17,7 +17,7 @@
 
 /* A row takes so many rounds and so many seconds at least: a shared machine has slow seconds, and both need their turns in a fast one. */
 static const int ROUNDS = 9;
-static const double SECONDS = 1.0;
+static const double SECONDS = 1.5;
 
 /* A stream; the bytes that are fed, few enough for the cache, so that the readers are measured and not the memory; the bytes that are listed, enough
  * for the start of a program not to count; and how many times as fast as the C the library has to be. */
@@ -33,7 +33,7 @@ typedef struct {
 static stream streams[] = {
     {"clean", stream_clean, 1 << 20, 32 << 20, 1.3, NULL},
     {"noise", stream_noise, 1 << 20, 32 << 20, 1.0, NULL},
-    {"hostile", stream_hostile, 256 << 10, 512 << 10, 10, NULL},
+    {"hostile", stream_hostile, 128 << 10, 256 << 10, 10, NULL},
     {"mixed", stream_mixed, 1 << 20, 1 << 20, 0, NULL},
 };
 enum { MEASURED = 3, ALL = 4 };
