@@ -138,7 +138,11 @@ static void run_c(const uint8_t *bytes, size_t length, size_t piece, tally *t) {
 }
 
 static const way ways[] = {
-    {"whole", SIZE_MAX, run_library, 1}, {"4096", 4096, run_library, 1}, {"64", 64, run_library, 0}, {"1", 1, run_library, 0}, {"cs_next", SIZE_MAX, run_plain, 0},
+    {"whole", SIZE_MAX, run_library, 1},
+    {"4096", 4096, run_library, 1},
+    {"64", 64, run_library, 0},
+    {"1", 1, run_library, 0},
+    {"cs_next", SIZE_MAX, run_plain, 0},
 };
 enum { WAYS = 5, LISTING = WAYS, ROWS = WAYS + 1 };
 
