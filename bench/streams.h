@@ -1,0 +1,20 @@
+/* The streams that both readers are measured on, the same in every run. */
+#ifndef STREAMS_H
+#define STREAMS_H
+
+#include <stddef.h>
+#include <stdint.h>
+
+/* Messages of 7 observations, new and old by turns, with right checksums and nothing between them. */
+void stream_clean(uint8_t *bytes, size_t length);
+
+/* Bytes of a generator with a fixed seed. */
+void stream_noise(uint8_t *bytes, size_t length);
+
+/* MACM x FF, again and again: every sixth byte claims the longest old message, and none of them is one. */
+void stream_hostile(uint8_t *bytes, size_t length);
+
+/* What a bad link leaves: messages of all counts, some damaged, some cut short, with noise and parts of sync strings between them. */
+void stream_mixed(uint8_t *bytes, size_t length);
+
+#endif
