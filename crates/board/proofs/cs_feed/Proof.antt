@@ -47,8 +47,8 @@ use Rattle.stream.proofs.State as S
 use Rattle.stream.proofs.State.Laws as S′
 use Rattle.board.specs.Words.{fedWords}
 use Rattle.board.specs.declared.FedWords.{FedWords}
-use Rattle.board.proofs.AnswerWords as N
-use Rattle.board.proofs.AnswerWords.Laws as N′
+use Rattle.words.proofs.AnswerWords as N
+use Rattle.words.proofs.AnswerWords.Laws as N′
 use Rattle.board.proofs.FedWords as F
 use Rattle.board.proofs.FedWords.Laws as F′
 use Rattle.board.proofs.fed as fed
