@@ -28,13 +28,6 @@ ghost use Rattle.track.specs.Row.{rowOf, Bounded};
 ghost use Rattle.track.specs.Shown.{phaseOf};
 ghost use Rattle.units.specs.Units.{lockOf, lockMillis, millisIn};
 ghost use Rattle.words.specs.Words.{formIn, headerIn, observationIn, readingWords, writtenWords, foundWords, answerWords, phaseWords};
-ghost use Rattle.board.specs.Words.{fedWords};
-
-// A stream call by value: the state that it leaves, and its answer.
-struct FedWords {
-    state: State,
-    answer: AnswerWords,
-}
 
 // ---- one message
 
@@ -104,35 +97,6 @@ pub extern "C" fn cs_fresh() -> State
     stream::fresh()
 }
 
-fn fed(state: State, piece: &[u8], window: &mut [u8], output: &mut [u8]) -> FedWords
-    ensures { λ r. ⌜ (r ≡ fedWords (feedCall state (now (piece .entry)) (now (window .entry)) (now (output .entry))) (length (now (piece .entry))))
-        × (now (window .exit) ≡ feedCall state (now (piece .entry)) (now (window .entry)) (now (output .entry)) .window)
-        × (now (output .exit) ≡ feedCall state (now (piece .entry)) (now (window .entry)) (now (output .entry)) .output) ⌝ }
-{
-    let offered = piece.len() as u64;
-    let reply = stream::feed(state, piece, window, output);
-    let answer = reply.answer;
-    let after = reply.state;
-    FedWords {
-        state: after,
-        answer: words::answer_words(answer, offered),
-    }
-}
-
-fn finished(state: State, window: &mut [u8], output: &mut [u8]) -> FedWords
-    ensures { λ r. ⌜ (r ≡ fedWords (finishCall state (now (window .entry)) (now (output .entry))) 0)
-        × (now (window .exit) ≡ finishCall state (now (window .entry)) (now (output .entry)) .window)
-        × (now (output .exit) ≡ finishCall state (now (window .entry)) (now (output .entry)) .output) ⌝ }
-{
-    let reply = stream::finish(state, window, output);
-    let answer = reply.answer;
-    let after = reply.state;
-    FedWords {
-        state: after,
-        answer: words::answer_words(answer, 0),
-    }
-}
-
 // Feeds a reader whose state the host keeps.
 #[no_mangle]
 pub extern "C" fn cs_feed(
@@ -147,9 +111,9 @@ pub extern "C" fn cs_feed(
         × (now (output .exit) ≡ feedCall (now (state .entry)) (now (piece .entry)) (now (window .entry)) (now (output .entry)) .output) ⌝ }
 {
     let before = *state;
-    let call = fed(before, piece, window, output);
-    *state = call.state;
-    call.answer
+    let reply = stream::feed(before, piece, window, output);
+    *state = reply.state;
+    words::answer_words(reply, piece.len() as u64)
 }
 
 // Finishes a reader whose state the host keeps.
@@ -161,9 +125,9 @@ pub extern "C" fn cs_finish(state: &mut State, window: &mut [u8], output: &mut [
         × (now (output .exit) ≡ finishCall (now (state .entry)) (now (window .entry)) (now (output .entry)) .output) ⌝ }
 {
     let before = *state;
-    let call = finished(before, window, output);
-    *state = call.state;
-    call.answer
+    let reply = stream::finish(before, window, output);
+    *state = reply.state;
+    words::answer_words(reply, 0)
 }
 
 // ---- numbers for the track people

@@ -7,6 +7,7 @@ use macm::Header;
 use macm::Observation;
 use macm::Reading;
 use stream::Answer;
+use stream::Reply;
 use track::Phase;
 use units::LockCount;
 ghost use mathlib.Core.Path.{_≡_};
@@ -256,9 +257,10 @@ fn answer_of(refusal: u64, kind: u64, length: u64, gap: u64, taken: u64) -> Answ
 }
 
 // All of the bytes offered are taken where more is needed.
-pub fn answer_words(answer: Answer, offered: u64) -> AnswerWords
-    ensures { λ r. ⌜ r ≡ answerWords answer offered ⌝ }
+pub fn answer_words(reply: Reply, offered: u64) -> AnswerWords
+    ensures { λ r. ⌜ r ≡ answerWords (reply .answer) offered ⌝ }
 {
+    let answer = reply.answer;
     match answer {
         Answer::Refused(refusal) => answer_of(refusal::number(refusal), 0, 0, 0, 0),
         Answer::NeedsMore => answer_of(0, 0, 0, 0, offered),
