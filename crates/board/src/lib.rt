@@ -1,16 +1,10 @@
 // The entries for a C host, declared in include/cablesound.h: each is thin over the library below it. A slice comes in as pointer and length, structs
 // of 64-bit words go by value, and the stream reader's state is lent for the call.
 use macm::Form;
-use macm::Verdict;
 use stream::State;
-use track::PlotRow;
-use units::LockCount;
 use words::AnswerWords;
-use words::FoundWords;
 use words::HeaderWords;
 use words::ObservationWords;
-use words::PhaseWords;
-use words::ReadingWords;
 use words::WrittenWords;
 ghost use mathlib.Core.Path.{_≡_};
 ghost use lib.ListN.{length};
@@ -36,13 +30,13 @@ pub extern "C" fn cs_check(message: &[u8]) -> u64
     ensures { λ r. ⌜ r ≡ checkNumber (verdict (now (message .entry))) ⌝ }
 {
     match macm::check(message) {
-        Verdict::Refused(refusal) => refusal::number(refusal),
-        Verdict::Accepted(_, _) => 0,
+        macm::Verdict::Refused(refusal) => refusal::number(refusal),
+        macm::Verdict::Accepted(_, _) => 0,
     }
 }
 
 #[no_mangle]
-pub extern "C" fn cs_read(message: &[u8], index: usize) -> ReadingWords
+pub extern "C" fn cs_read(message: &[u8], index: usize) -> words::ReadingWords
     ensures { λ r. ⌜ r ≡ readingWords (readOf (now (message .entry)) index) ⌝ }
 {
     words::reading_words(macm::read(message, index))
@@ -59,12 +53,9 @@ pub extern "C" fn cs_start(output: &mut [u8], header: HeaderWords, count: u8) ->
 pub extern "C" fn cs_set(message: &mut [u8], index: usize, observation: ObservationWords) -> u64
     ensures { λ r. ⌜ (r ≡ writtenNumber (setOf (now (message .entry)) index)) × (now (message .exit) ≡ setBytes (now (message .entry)) index (observationIn observation)) ⌝ }
 {
-    let written = words::written_words(compose::set(
-        message,
-        index,
-        words::observation_in(observation),
-    ));
-    written.refusal
+    let written = compose::set(message, index, words::observation_in(observation));
+    let answer = words::written_words(written);
+    answer.refusal
 }
 
 #[no_mangle]
@@ -84,7 +75,7 @@ pub extern "C" fn cs_to_old(message: &[u8], version: u8, output: &mut [u8]) -> W
 // ---- a recording, whole and in pieces
 
 #[no_mangle]
-pub extern "C" fn cs_next(recording: &[u8], start: usize) -> FoundWords
+pub extern "C" fn cs_next(recording: &[u8], start: usize) -> words::FoundWords
     ensures { λ r. ⌜ r ≡ foundWords (nextOf (now (recording .entry)) start) ⌝ }
 {
     words::found_words(division::next_message(recording, start))
@@ -143,12 +134,12 @@ pub extern "C" fn cs_range_um(pseudorange: u32) -> u64
 pub extern "C" fn cs_lock_ms(lock: u32) -> u64
     ensures { λ r. ⌜ r ≡ millisIn (lockMillis (lockOf lock)) ⌝ }
 {
-    let millis = units::since_lock(LockCount::from_count(lock));
+    let millis = units::since_lock(units::LockCount::from_count(lock));
     millis.number()
 }
 
 #[no_mangle]
-pub extern "C" fn cs_phase(form: u64, observation: ObservationWords) -> PhaseWords
+pub extern "C" fn cs_phase(form: u64, observation: ObservationWords) -> words::PhaseWords
     ensures { λ r. ⌜ r ≡ phaseWords (phaseOf (formIn form 0 0 0) (observationIn observation)) ⌝ }
 {
     words::phase_words(track::phase_of(
@@ -158,7 +149,7 @@ pub extern "C" fn cs_phase(form: u64, observation: ObservationWords) -> PhaseWor
 }
 
 #[no_mangle]
-pub extern "C" fn cs_plot_row(pseudorange: u32, rate: i32) -> PlotRow
+pub extern "C" fn cs_plot_row(pseudorange: u32, rate: i32) -> track::PlotRow
     ensures { λ r. ⌜ (r ≡ rowOf pseudorange rate) × Bounded pseudorange rate r ⌝ }
 {
     track::plot_row(pseudorange, rate)

@@ -7,9 +7,7 @@ use macm::Header;
 use macm::Observation;
 use macm::Reading;
 use stream::Answer;
-use stream::Reply;
 use track::Phase;
-use units::LockCount;
 ghost use mathlib.Core.Path.{_≡_};
 ghost use Rattle.words.specs.Words.{lowBits, formIn, headerIn, observationIn, headerWords, observationWords, unobservedWords, readingWords, writtenWords, foundWords, answerWords, phaseWords};
 
@@ -119,7 +117,7 @@ pub fn observation_in(words: ObservationWords) -> Observation
         phase: words.phase,
         pseudorange: (words.pseudorange % 4294967296) as u32,
         rate: octets::signed_of(low_bits(words.rate)),
-        lock: LockCount::from_count((words.lock % 4294967296) as u32),
+        lock: units::LockCount::from_count((words.lock % 4294967296) as u32),
     }
 }
 
@@ -257,7 +255,7 @@ fn answer_of(refusal: u64, kind: u64, length: u64, gap: u64, taken: u64) -> Answ
 }
 
 // All of the bytes offered are taken where more is needed.
-pub fn answer_words(reply: Reply, offered: u64) -> AnswerWords
+pub fn answer_words(reply: stream::Reply, offered: u64) -> AnswerWords
     ensures { λ r. ⌜ r ≡ answerWords (reply .answer) offered ⌝ }
 {
     let answer = reply.answer;
