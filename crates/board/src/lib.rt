@@ -21,7 +21,8 @@ ghost use Rattle.track.specs.Range.{rangeOf};
 ghost use Rattle.track.specs.Row.{rowOf, Bounded};
 ghost use Rattle.track.specs.Shown.{phaseOf};
 ghost use Rattle.units.specs.Units.{lockOf, lockMillis, millisIn};
-ghost use Rattle.words.specs.Words.{formIn, headerIn, observationIn, readingWords, writtenWords, foundWords, answerWords, phaseWords};
+ghost use Rattle.words.specs.Words.{formIn, headerIn, observationIn, readingWords, writtenWords, foundWords, phaseWords};
+ghost use Rattle.board.specs.Lent.{Finds};
 
 // ---- one message
 
@@ -96,10 +97,7 @@ pub extern "C" fn cs_feed(
     window: &mut [u8],
     output: &mut [u8],
 ) -> AnswerWords
-    ensures { λ r. ⌜ (now (state .exit) ≡ feedCall (now (state .entry)) (now (piece .entry)) (now (window .entry)) (now (output .entry)) .state)
-        × (r ≡ answerWords (feedCall (now (state .entry)) (now (piece .entry)) (now (window .entry)) (now (output .entry)) .answer) (length (now (piece .entry))))
-        × (now (window .exit) ≡ feedCall (now (state .entry)) (now (piece .entry)) (now (window .entry)) (now (output .entry)) .window)
-        × (now (output .exit) ≡ feedCall (now (state .entry)) (now (piece .entry)) (now (window .entry)) (now (output .entry)) .output) ⌝ }
+    ensures { λ r. ⌜ Finds (feedCall (now (state .entry)) (now (piece .entry)) (now (window .entry)) (now (output .entry))) (length (now (piece .entry))) (now (state .exit)) r (now (window .exit)) (now (output .exit)) ⌝ }
 {
     let before = *state;
     let reply = stream::feed(before, piece, window, output);
@@ -110,10 +108,7 @@ pub extern "C" fn cs_feed(
 // Finishes a reader whose state the host keeps.
 #[no_mangle]
 pub extern "C" fn cs_finish(state: &mut State, window: &mut [u8], output: &mut [u8]) -> AnswerWords
-    ensures { λ r. ⌜ (now (state .exit) ≡ finishCall (now (state .entry)) (now (window .entry)) (now (output .entry)) .state)
-        × (r ≡ answerWords (finishCall (now (state .entry)) (now (window .entry)) (now (output .entry)) .answer) 0)
-        × (now (window .exit) ≡ finishCall (now (state .entry)) (now (window .entry)) (now (output .entry)) .window)
-        × (now (output .exit) ≡ finishCall (now (state .entry)) (now (window .entry)) (now (output .entry)) .output) ⌝ }
+    ensures { λ r. ⌜ Finds (finishCall (now (state .entry)) (now (window .entry)) (now (output .entry))) 0 (now (state .exit)) r (now (window .exit)) (now (output .exit)) ⌝ }
 {
     let before = *state;
     let reply = stream::finish(before, window, output);

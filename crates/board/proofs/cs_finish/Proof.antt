@@ -127,7 +127,7 @@ module _ {M : Type 1} (𝓤 : URA M) (H : Heap 𝓤) (A : Atoms 𝓤) (W : Given
   exits r ws os n v e said lw lo is =
       qed W (‵ (fobs γ (S.the-row .coded .code (r .state))) ∷ ‵ (fbor κ (Body (mem S.the-row) b o γ)) ∷ ‵ (flft κ q) ∷ tokens ∷ ‵ (finally u8 (xo .name) os) ∷ ‵ (finally u8 (xw .name) ws) ∷ []) ∵
       suffices ! _ (ends-at 𝓤 H A f.ended stayed (f.clauses 𝓤 H A at-mem run) W (((κ, κs), (q, qs), tt, a, vals), tt) v n (r .state, (ws, (os, tt))) (tt, (lw, (lo, tt)))) $
-      says ! (ap (λ (d : Reply). d .state) (e .reply), said ∙ ap (λ (d : Reply). answerWords (d .answer) 0) (e .reply), e .window, e .output) $
+      says ! (record { state = ap (λ (d : Reply). d .state) (e .reply); answer = said ∙ ap (λ (d : Reply). answerWords (d .answer) 0) (e .reply); window = e .window; output = e .output }) $
       move ! (2 ∷ 3 ∷ []) $ join ! $ frame ! $
       -- [obs; the borrow; out's last list; window's last list]
       feqI ! (List Val) (vptr b o ∷ []) (vptr b o ∷ []) refl $ fjoin3 ! $
