@@ -137,10 +137,8 @@ pub extern "C" fn cs_lock_ms(lock: u32) -> u64
 pub extern "C" fn cs_phase(form: u64, observation: ObservationWords) -> words::PhaseWords
     ensures { λ r. ⌜ r ≡ phaseWords (phaseOf (formIn form 0 0 0) (observationIn observation)) ⌝ }
 {
-    words::phase_words(track::phase_of(
-        words::form_in(form, 0, 0, 0),
-        words::observation_in(observation),
-    ))
+    let form = words::form_in(form, 0, 0, 0);
+    words::phase_words(track::phase_of(form, words::observation_in(observation)))
 }
 
 #[no_mangle]
