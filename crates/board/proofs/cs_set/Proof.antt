@@ -4,13 +4,13 @@ use Rattle.board.proofs.cs_set.Statement.{statement}
 use Rattle.board.proofs.cs_set.Tie as tie
 
 observation-in-requires : tie.Need-observation-in-requires
-observation-in-requires c κs = search needs
+observation-in-requires c κs = tt
 
 set-requires : tie.Need-set-requires
-set-requires c κs = search needs
+set-requires c κs = tt
 
 written-words-requires : tie.Need-written-words-requires
-written-words-requires c κs = search needs
+written-words-requires c κs = tt
 
 same-length : tie.Need-same-length
 same-length c = search needs

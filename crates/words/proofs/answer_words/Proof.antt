@@ -7,28 +7,28 @@ enum-known-answer : tie.Need-enum-known-answer
 enum-known-answer c = search needs
 
 number-requires : tie.Need-number-requires
-number-requires c κs = search needs
+number-requires c κs = tt
 
 answer-of-requires : tie.Need-answer-of-requires
-answer-of-requires c κs = search needs
+answer-of-requires c κs = tt
 
 enum-told : tie.Need-enum-told
 enum-told c = search needs
 
 answer-of-requires-2 : tie.Need-answer-of-requires-2
-answer-of-requires-2 c κs = search needs
+answer-of-requires-2 c κs = tt
 
 enum-known-answer-2 : tie.Need-enum-known-answer-2
 enum-known-answer-2 c = search needs
 
 answer-of-requires-3 : tie.Need-answer-of-requires-3
-answer-of-requires-3 c κs = search needs
+answer-of-requires-3 c κs = tt
 
 enum-known-answer-3 : tie.Need-enum-known-answer-3
 enum-known-answer-3 c = search needs
 
 answer-of-requires-4 : tie.Need-answer-of-requires-4
-answer-of-requires-4 c κs = search needs
+answer-of-requires-4 c κs = tt
 
 returns : tie.Need-returns
 returns c = rw (c .before .before .before .answer .given .1, c .answer-of .ensures, c .before .number .ensures)

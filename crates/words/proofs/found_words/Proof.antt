@@ -7,22 +7,22 @@ enum-known-next : tie.Need-enum-known-next
 enum-known-next c = search needs
 
 number-requires : tie.Need-number-requires
-number-requires c κs = search needs
+number-requires c κs = tt
 
 found-of-requires : tie.Need-found-of-requires
-found-of-requires c κs = search needs
+found-of-requires c κs = tt
 
 enum-known-next-2 : tie.Need-enum-known-next-2
 enum-known-next-2 c = search needs
 
 found-of-requires-2 : tie.Need-found-of-requires-2
-found-of-requires-2 c κs = search needs
+found-of-requires-2 c κs = tt
 
 enum-known-next-3 : tie.Need-enum-known-next-3
 enum-known-next-3 c = search needs
 
 found-of-requires-3 : tie.Need-found-of-requires-3
-found-of-requires-3 c κs = search needs
+found-of-requires-3 c κs = tt
 
 returns : tie.Need-returns
 returns c = rw (c .before .before .before .next .given .1, c .found-of .ensures, c .before .number .ensures)

@@ -4,7 +4,7 @@ use Rattle.words.proofs.header_in.Statement.{statement}
 use Rattle.words.proofs.header_in.Tie as tie
 
 form-in-requires : tie.Need-form-in-requires
-form-in-requires c κs = search needs
+form-in-requires c κs = tt
 
 cast-time : tie.Need-cast-time
 cast-time c = search needs

@@ -7,13 +7,13 @@ enum-known-form : tie.Need-enum-known-form
 enum-known-form c = search needs
 
 header-of-requires : tie.Need-header-of-requires
-header-of-requires c κs = search needs
+header-of-requires c κs = tt
 
 enum-known-form-2 : tie.Need-enum-known-form-2
 enum-known-form-2 c = search needs
 
 header-of-requires-2 : tie.Need-header-of-requires-2
-header-of-requires-2 c κs = search needs
+header-of-requires-2 c κs = tt
 
 returns : tie.Need-returns
 returns c = rw (c .before .before .form .given .1, c .header-of .ensures)

@@ -21,16 +21,16 @@ cast-t9 : tie.Need-cast-t9
 cast-t9 c = search needs
 
 low-bits-requires : tie.Need-low-bits-requires
-low-bits-requires c κs = search needs
+low-bits-requires c κs = tt
 
 signed-of-requires : tie.Need-signed-of-requires
-signed-of-requires c κs = search needs
+signed-of-requires c κs = tt
 
 cast-from-count : tie.Need-cast-from-count
 cast-from-count c = search needs
 
 from-count-requires : tie.Need-from-count-requires
-from-count-requires c κs = search needs
+from-count-requires c κs = tt
 
 returns : tie.Need-returns
 returns c =

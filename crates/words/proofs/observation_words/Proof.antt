@@ -28,7 +28,7 @@ cast-t7 c =
     subst (λ (y : ℤ). SFits w64 y) (sym (toZ-ofZ w32 (start .args .o .rate) (record { sfits = fits .1 }))) (record { sfits = omega (arith, fits .1) })
 
 count-requires : tie.Need-count-requires
-count-requires c κs = search needs
+count-requires c κs = tt
 
 cast-t9 : tie.Need-cast-t9
 cast-t9 c = search needs

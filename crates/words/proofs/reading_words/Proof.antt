@@ -7,22 +7,22 @@ enum-known-reading : tie.Need-enum-known-reading
 enum-known-reading c = search needs
 
 number-requires : tie.Need-number-requires
-number-requires c κs = search needs
+number-requires c κs = tt
 
 header-of-requires : tie.Need-header-of-requires
-header-of-requires c κs = search needs
+header-of-requires c κs = tt
 
 unobserved-requires : tie.Need-unobserved-requires
-unobserved-requires c κs = search needs
+unobserved-requires c κs = tt
 
 enum-known-reading-2 : tie.Need-enum-known-reading-2
 enum-known-reading-2 c = search needs
 
 header-words-requires : tie.Need-header-words-requires
-header-words-requires c κs = search needs
+header-words-requires c κs = tt
 
 unobserved-requires-2 : tie.Need-unobserved-requires-2
-unobserved-requires-2 c κs = search needs
+unobserved-requires-2 c κs = tt
 
 enum-known-reading-3 : tie.Need-enum-known-reading-3
 enum-known-reading-3 c = search needs
@@ -31,10 +31,10 @@ cast-t11 : tie.Need-cast-t11
 cast-t11 c = search needs
 
 header-words-requires-2 : tie.Need-header-words-requires-2
-header-words-requires-2 c κs = search needs
+header-words-requires-2 c κs = tt
 
 observation-words-requires : tie.Need-observation-words-requires
-observation-words-requires c κs = search needs
+observation-words-requires c κs = tt
 
 returns : tie.Need-returns
 returns c = rw (c .before .before .before .before .reading .given .1, c .unobserved .ensures, c .before .header-of .ensures, c .before .before .number .ensures)

@@ -7,7 +7,7 @@ enum-known-written : tie.Need-enum-known-written
 enum-known-written c = search needs
 
 number-requires : tie.Need-number-requires
-number-requires c κs = search needs
+number-requires c κs = tt
 
 enum-known-written-2 : tie.Need-enum-known-written-2
 enum-known-written-2 c = search needs
