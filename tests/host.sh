@@ -24,7 +24,7 @@ build() {
 listing() {
     for recording in 264-21-figure-1 264-04-table-4 264-04-table-4-by-the-rule; do
         echo "$recording"
-        "$work/$1" "tests/vectors/$recording.bin" || return 1
+        "$work/$1" "crates/vectors/data/$recording.bin" || return 1
     done
     echo "S12, from standard input"
     printf 'MACMAC2\000\000\000\016\240\014\220\100\174\020\000\036' | "$work/$1" || return 1

@@ -3,9 +3,9 @@
 use boundary::{board, check, next, numbers, read, recording, run, set, to_new, to_old};
 use reader::LONGEST;
 
-const NEW: &[u8] = include_bytes!("../../vectors/264-21-figure-1.bin");
-const OLD: &[u8] = include_bytes!("../../vectors/264-04-table-4.bin");
-const OLD_BY_THE_RULE: &[u8] = include_bytes!("../../vectors/264-04-table-4-by-the-rule.bin");
+const NEW: &[u8] = include_bytes!("../../../crates/vectors/data/264-21-figure-1.bin");
+const OLD: &[u8] = include_bytes!("../../../crates/vectors/data/264-04-table-4.bin");
+const OLD_BY_THE_RULE: &[u8] = include_bytes!("../../../crates/vectors/data/264-04-table-4-by-the-rule.bin");
 
 /// Runs over every cutting into equal pieces, and answers the number of messages.
 fn messages(stream: &[u8]) -> usize {

@@ -1,0 +1,38 @@
+-- `lines::put_head` meets its contract. Assumes nothing.
+use borrow.Author.Needs.{needs}
+use Rattle.lines.proofs.put_head.Statement.{statement}
+use Rattle.lines.proofs.put_head.Tie as tie
+use Rattle.lines.proofs.put_head.Reads as reads
+use Rattle.lines.proofs.put_head.Lts as lts
+use Rattle.lines.proofs.put_number.Reads as put-number-reads
+use Rattle.lines.proofs.put_signal.Reads as put-signal-reads
+use Rattle.text.proofs.PutLaws.{puts-join}
+
+put-number-requires : tie.Need-put-number-requires
+put-number-requires c κs = search needs
+
+cast-put-number : tie.Need-cast-put-number
+cast-put-number c = search needs
+
+put-number-requires-2 : tie.Need-put-number-requires-2
+put-number-requires-2 c κs = search needs
+
+put-signal-requires : tie.Need-put-signal-requires
+put-signal-requires c κs = search needs
+
+same-length : tie.Need-same-length
+same-length c = search needs
+
+returns : tie.Need-returns
+returns c = puts-join (c .before .before .before .before .before .before .before .before .before .before .before .put-number .ensures) (puts-join (c .before .before .before .before .before .before .put-number2 .ensures) (c .before .before .put-signal .ensures))
+
+pub put-head-spec : {M : Type 1} → statement M
+put-head-spec =
+    tie.close
+    (tie.spec
+    put-number-requires
+    cast-put-number
+    put-number-requires-2
+    put-signal-requires
+    same-length
+    returns)

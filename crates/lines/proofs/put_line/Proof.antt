@@ -1,0 +1,59 @@
+-- `lines::put_line` meets its contract. Assumes nothing.
+use borrow.Author.Needs.{needs}
+use Rattle.lines.proofs.put_line.Statement.{statement}
+use Rattle.lines.proofs.put_line.Tie as tie
+use Rattle.lines.proofs.put_line.Reads as reads
+use Rattle.lines.proofs.put_line.Lts as lts
+use Rattle.lines.proofs.put_message.Reads as put-message-reads
+use Rattle.macm.proofs.read.Reads as read-reads
+use mathlib.Core.Path.{sym, _∙_}
+use Rattle.text.proofs.PutLaws.{puts-none}
+
+read-requires : tie.Need-read-requires
+read-requires c κs = search needs
+
+enum-told : tie.Need-enum-told
+enum-told c = search needs
+
+enum-known-reading : tie.Need-enum-known-reading
+enum-known-reading c = search needs
+
+put-message-requires : tie.Need-put-message-requires
+put-message-requires c κs = search needs
+
+enum-known-reading-2 : tie.Need-enum-known-reading-2
+enum-known-reading-2 c = search needs
+
+put-message-requires-2 : tie.Need-put-message-requires-2
+put-message-requires-2 c κs = search needs
+
+returns : tie.Need-returns
+returns c = rw (sym (c .before .before .read .ensures) ∙ c .enum-told .given .1) (puts-none _ _)
+
+same-length : tie.Need-same-length
+same-length c = search needs
+
+returns-2 : tie.Need-returns-2
+returns-2 c = rw (sym (c .before .before .before .before .before .before .before .read .ensures) ∙ c .before .before .before .before .before .reading .given .1) (c .before .before .put-message .ensures)
+
+same-length-2 : tie.Need-same-length-2
+same-length-2 c = search needs
+
+returns-3 : tie.Need-returns-3
+returns-3 c = rw (sym (c .before .before .before .before .before .before .before .read .ensures) ∙ c .before .before .before .before .before .reading2 .given .1) (c .before .before .put-message2 .ensures)
+
+pub put-line-spec : {M : Type 1} → statement M
+put-line-spec =
+    tie.close
+    (tie.spec
+    read-requires
+    enum-told
+    enum-known-reading
+    put-message-requires
+    enum-known-reading-2
+    put-message-requires-2
+    returns
+    same-length
+    returns-2
+    same-length-2
+    returns-3)

@@ -1,0 +1,24 @@
+-- `lines::put_number` meets its contract. Assumes nothing.
+use borrow.Author.Needs.{needs}
+use Rattle.lines.proofs.put_number.Statement.{statement}
+use Rattle.lines.proofs.put_number.Tie as tie
+use Rattle.lines.proofs.put_number.Reads as reads
+use Rattle.lines.proofs.put_number.Lts as lts
+use Rattle.text.proofs.put.Reads as put-reads
+use Rattle.text.proofs.put_decimal.Reads as put-decimal-reads
+use Rattle.text.proofs.PutLaws.{puts-join}
+
+put-decimal-requires : tie.Need-put-decimal-requires
+put-decimal-requires c κs = search needs
+
+put-requires : tie.Need-put-requires
+put-requires c κs = search needs
+
+same-length : tie.Need-same-length
+same-length c = search needs
+
+returns : tie.Need-returns
+returns c = puts-join (c .before .before .before .before .before .before .put-decimal .ensures) (c .before .before .put .ensures)
+
+pub put-number-spec : {M : Type 1} → statement M
+put-number-spec = tie.close (tie.spec put-decimal-requires put-requires same-length returns)

@@ -1,0 +1,40 @@
+-- `lines::put_observation` meets its contract. Assumes nothing.
+use borrow.Author.Needs.{needs}
+use Rattle.lines.proofs.put_observation.Statement.{statement}
+use Rattle.lines.proofs.put_observation.Tie as tie
+use Rattle.lines.proofs.put_observation.Reads as reads
+use Rattle.lines.proofs.put_observation.Lts as lts
+use Rattle.lines.proofs.put_head.Reads as put-head-reads
+use Rattle.lines.proofs.put_range.Reads as put-range-reads
+use Rattle.lines.proofs.put_rate.Reads as put-rate-reads
+use Rattle.lines.proofs.put_shown.Reads as put-shown-reads
+use Rattle.text.proofs.PutLaws.{puts-join}
+
+put-head-requires : tie.Need-put-head-requires
+put-head-requires c κs = search needs
+
+put-range-requires : tie.Need-put-range-requires
+put-range-requires c κs = search needs
+
+put-shown-requires : tie.Need-put-shown-requires
+put-shown-requires c κs = search needs
+
+put-rate-requires : tie.Need-put-rate-requires
+put-rate-requires c κs = search needs
+
+same-length : tie.Need-same-length
+same-length c = search needs
+
+returns : tie.Need-returns
+returns c = puts-join (c .before .before .before .before .before .before .before .before .before .before .before .before .before .before .put-head .ensures) (puts-join (c .before .before .before .before .before .before .before .before .before .before .put-range .ensures) (puts-join (c .before .before .before .before .before .before .put-shown .ensures) (c .before .before .put-rate .ensures)))
+
+pub put-observation-spec : {M : Type 1} → statement M
+put-observation-spec =
+    tie.close
+    (tie.spec
+    put-head-requires
+    put-range-requires
+    put-shown-requires
+    put-rate-requires
+    same-length
+    returns)

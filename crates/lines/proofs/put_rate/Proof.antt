@@ -1,0 +1,61 @@
+use borrow.Author.Needs.{needs}
+use Rattle.lines.proofs.put_rate.Statement.{statement}
+use Rattle.lines.proofs.put_rate.Tie as tie
+use Rattle.lines.proofs.put_rate.Reads as reads
+use Rattle.lines.proofs.put_rate.Lts as lts
+use Rattle.text.proofs.put.Reads as put-reads
+use Rattle.text.proofs.put_decimal.Reads as put-decimal-reads
+use Rattle.text.proofs.put_hertz.Reads as put-hertz-reads
+use Rattle.units.proofs.Millis.number.Reads as number-reads
+use Rattle.units.proofs.since_lock.Reads as since-lock-reads
+use Rattle.text.proofs.PutLaws.{puts-join}
+use mir.Syntax.{w32}
+use mir.ValLaws.{toZ-ofZ}
+use mathlib.Core.Path.{_∙_, ap}
+use lib.IntN.{ℤ}
+use Rattle.text.specs.Digits.{hertz, decimal}
+use Rattle.units.specs.Units.{millisIn}
+
+-- `lines::put_rate` meets its contract. Assumes nothing.
+
+since-lock-requires : tie.Need-since-lock-requires
+since-lock-requires c κs = search needs
+
+put-hertz-requires : tie.Need-put-hertz-requires
+put-hertz-requires c κs = search needs
+
+put-requires : tie.Need-put-requires
+put-requires c κs = search needs
+
+number-requires : tie.Need-number-requires
+number-requires c κs = search needs
+
+put-decimal-requires : tie.Need-put-decimal-requires
+put-decimal-requires c κs = search needs
+
+put-requires-2 : tie.Need-put-requires-2
+put-requires-2 c κs = search needs
+
+same-length : tie.Need-same-length
+same-length c = search needs
+
+returns : tie.Need-returns
+returns c =
+    let rate = c .before .before .before .before .before .before .before .before .before .before .before .before .before .before .before .before .before .before .before .before .before .args .observation .rate in
+    let fits = c .before .before .before .before .before .before .before .before .before .before .before .before .before .before .before .before .struct-told .given .1 .1 .1 .1 .1 .0 in
+    let shown = rw (toZ-ofZ w32 rate (record { sfits = fits .1 })) at (c .before .before .before .before .before .before .before .before .before .before .before .before .before .before .before .put-hertz .ensures) in
+    let millis = c .before .before .before .before .before .before .before .number .ensures ∙ ap millisIn (c .before .before .before .before .before .before .before .before .before .before .before .before .before .before .before .before .before .before .since-lock .ensures) in
+    rw (← millis) (puts-join shown (puts-join (c .before .before .before .before .before .before .before .before .before .before .before .put .ensures) (puts-join (c .before .before .before .before .before .before .put-decimal .ensures) (c .before .before .put2 .ensures))))
+
+pub put-rate-spec : {M : Type 1} → statement M
+put-rate-spec =
+    tie.close
+    (tie.spec
+    since-lock-requires
+    put-hertz-requires
+    put-requires
+    number-requires
+    put-decimal-requires
+    put-requires-2
+    same-length
+    returns)

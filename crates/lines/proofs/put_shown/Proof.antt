@@ -1,0 +1,58 @@
+-- `lines::put_shown` meets its contract. Assumes nothing.
+use borrow.Author.Needs.{needs}
+use Rattle.lines.proofs.put_shown.Statement.{statement}
+use Rattle.lines.proofs.put_shown.Tie as tie
+use Rattle.lines.proofs.put_shown.Reads as reads
+use Rattle.lines.proofs.put_shown.Lts as lts
+use Rattle.lines.proofs.put_condition.Reads as put-condition-reads
+use Rattle.lines.proofs.put_phase.Reads as put-phase-reads
+use Rattle.text.proofs.put.Reads as put-reads
+use Rattle.text.proofs.put_hex.Reads as put-hex-reads
+use Rattle.track.proofs.condition_of.Reads as condition-of-reads
+use Rattle.track.proofs.phase_of.Reads as phase-of-reads
+use Rattle.text.proofs.PutLaws.{puts-join}
+
+phase-of-requires : tie.Need-phase-of-requires
+phase-of-requires c κs = search needs
+
+put-phase-requires : tie.Need-put-phase-requires
+put-phase-requires c κs = search needs
+
+put-requires : tie.Need-put-requires
+put-requires c κs = search needs
+
+put-hex-requires : tie.Need-put-hex-requires
+put-hex-requires c κs = search needs
+
+put-requires-2 : tie.Need-put-requires-2
+put-requires-2 c κs = search needs
+
+condition-of-requires : tie.Need-condition-of-requires
+condition-of-requires c κs = search needs
+
+put-condition-requires : tie.Need-put-condition-requires
+put-condition-requires c κs = search needs
+
+put-requires-3 : tie.Need-put-requires-3
+put-requires-3 c κs = search needs
+
+same-length : tie.Need-same-length
+same-length c = search needs
+
+returns : tie.Need-returns
+returns c = rw (← (c .before .before .before .before .before .before .before .before .before .before .before .before .before .before .before .before .before .before .before .before .before .before .before .before .phase-of .ensures .0), ← (c .before .before .before .before .before .before .before .condition-of .ensures)) (puts-join (c .before .before .before .before .before .before .before .before .before .before .before .before .before .before .before .before .before .before .before .before .before .before .before .put-phase .ensures) (puts-join (c .before .before .before .before .before .before .before .before .before .before .before .before .before .before .before .before .before .before .before .put .ensures) (puts-join (c .before .before .before .before .before .before .before .before .before .before .before .before .before .before .before .put-hex .ensures) (puts-join (c .before .before .before .before .before .before .before .before .before .before .before .put2 .ensures) (puts-join (c .before .before .before .before .before .before .put-condition .ensures) (c .before .before .put3 .ensures))))))
+
+pub put-shown-spec : {M : Type 1} → statement M
+put-shown-spec =
+    tie.close
+    (tie.spec
+    phase-of-requires
+    put-phase-requires
+    put-requires
+    put-hex-requires
+    put-requires-2
+    condition-of-requires
+    put-condition-requires
+    put-requires-3
+    same-length
+    returns)

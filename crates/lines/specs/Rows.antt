@@ -1,0 +1,83 @@
+-- The rows for the people who compute the track: one an observation. Definitions only.
+use Prim.Native.Nat.{ℕ, zero, suc}
+use mathlib.Core.List.{List, [], _∷_, _++_}
+use Rattle.text.specs.Digits.{digits, decimal, metres, hertz}
+use Rattle.text.specs.Double.{nonfinite, cycles}
+use Rattle.units.specs.Units.{lockMillis, millisIn}
+use Rattle.macm.specs.Read.{readOf}
+use Rattle.macm.specs.declared.Form.{Form}
+use Rattle.macm.specs.declared.Form.the-variants.{New, Old}
+use Rattle.macm.specs.declared.Header.{Header}
+use Rattle.macm.specs.declared.Observation.{Observation}
+use Rattle.macm.specs.declared.Reading.{Reading}
+use Rattle.macm.specs.declared.Reading.the-variants.{Refused, HeaderOnly, Observed}
+use Rattle.track.specs.declared.Phase.{Phase}
+use Rattle.track.specs.declared.Phase.the-variants.{Withheld, NotFinite, Cycles}
+use Rattle.track.specs.declared.Polarity.{Polarity}
+use Rattle.track.specs.declared.Polarity.the-variants.{NotKnown, NotCorrected, NeedsHalfCycle, Undefined}
+use Rattle.track.specs.declared.Condition.{Condition}
+use Rattle.track.specs.declared.Condition.the-variants.{Flagged, MakerDefined}
+use Rattle.track.specs.Range.{rangeOf}
+use Rattle.track.specs.Condition.{conditionOf}
+use Rattle.track.specs.Shown.{phaseOf}
+use Rattle.lines.specs.Listing.{numberText}
+
+-- "v2 " and TYPE, or "v1 - "
+abbrev pub signalText : Form → List ℕ
+signalText (New signal tfom) = (118 ∷ 50 ∷ 32 ∷ []) ++ numberText signal
+signalText (Old version) = 118 ∷ 49 ∷ 32 ∷ 45 ∷ 32 ∷ []
+
+-- position of the message, time, form, TYPE
+abbrev pub headText : ℕ → Header → List ℕ
+headText position h = numberText position ++ (numberText (h .time) ++ signalText (h .form))
+
+-- SID, C/N0, CONDITION, range in metres
+abbrev pub rangeText : Observation → List ℕ
+rangeText o = numberText (o .sid) ++ (numberText (o .cn0) ++ (digits 16 4 (o .condition) ++ ((32 ∷ []) ++ (metres (rangeOf (o .pseudorange)) ++ (32 ∷ [])))))
+
+-- "withheld", or the double by its bits
+abbrev pub phaseText : Phase → ℕ → List ℕ
+phaseText Withheld bits = 119 ∷ 105 ∷ 116 ∷ 104 ∷ 104 ∷ 101 ∷ 108 ∷ 100 ∷ []
+phaseText NotFinite bits = nonfinite
+phaseText (Cycles double) bits = cycles bits
+
+-- "unknown", "uncorrected", "half" a cycle is needed, "undefined" with the code
+abbrev pub polarityText : Polarity → List ℕ
+polarityText NotKnown = 117 ∷ 110 ∷ 107 ∷ 110 ∷ 111 ∷ 119 ∷ 110 ∷ []
+polarityText NotCorrected = 117 ∷ 110 ∷ 99 ∷ 111 ∷ 114 ∷ 114 ∷ 101 ∷ 99 ∷ 116 ∷ 101 ∷ 100 ∷ []
+polarityText NeedsHalfCycle = 104 ∷ 97 ∷ 108 ∷ 102 ∷ []
+polarityText (Undefined code) = (117 ∷ 110 ∷ 100 ∷ 101 ∷ 102 ∷ 105 ∷ 110 ∷ 101 ∷ 100 ∷ []) ++ decimal code
+
+-- "-" in the old form
+abbrev pub conditionText : Condition → List ℕ
+conditionText (Flagged flags) = polarityText (flags .polarity)
+conditionText (MakerDefined bits) = 45 ∷ []
+
+-- phase in cycles, PHASE's sixteen digits, polarity
+abbrev pub shownText : Form → Observation → List ℕ
+shownText f o = phaseText (phaseOf f o) (o .phase) ++ ((32 ∷ []) ++ (digits 16 16 (o .phase) ++ ((32 ∷ []) ++ (conditionText (conditionOf f o) ++ (32 ∷ [])))))
+
+-- rate in hertz, time since lock in milliseconds
+abbrev pub rateText : Observation → List ℕ
+rateText o = hertz (o .rate) ++ ((32 ∷ []) ++ (decimal (millisIn (lockMillis (o .lock))) ++ (10 ∷ [])))
+
+abbrev pub observationText : ℕ → Header → Observation → List ℕ
+observationText position h o = headText position h ++ (rangeText o ++ (shownText (h .form) o ++ rateText o))
+
+abbrev pub rowText : ℕ → Reading → List ℕ
+rowText position (Refused r) = []
+rowText position (HeaderOnly h) = []
+rowText position (Observed h count o) = observationText position h o
+
+-- the rows of a message m: of its first k observations, and of all
+abbrev pub countIn : Reading → ℕ
+countIn (Refused r) = 0
+countIn (HeaderOnly h) = 0
+countIn (Observed h count o) = count
+
+unfoldable pub rowsUpTo : ℕ → ℕ → List ℕ → List ℕ
+rowsUpTo zero position m = []
+rowsUpTo (suc k) position m = rowsUpTo k position m ++ rowText position (readOf m k)
+
+abbrev pub rowsText : ℕ → List ℕ → List ℕ
+rowsText position m = rowsUpTo (countIn (readOf m 0)) position m

@@ -1,0 +1,232 @@
+// The lines that the programs print, put into a lent buffer as `text` puts numbers: of a message in the listing, of an observation for the people who
+// compute the track, and the listing's last.
+use macm::Form;
+use macm::Header;
+use macm::Observation;
+use macm::Reading;
+use track::Condition;
+use track::Phase;
+use track::Polarity;
+ghost use mathlib.Core.Path.{_≡_};
+ghost use Prim.Native.Nat.{_≤_};
+ghost use Rattle.text.specs.Put.{Puts};
+ghost use Rattle.lines.specs.Listing.{numberText, formText, messageText, lineText, endText};
+ghost use Rattle.lines.specs.Rows.{signalText, headText, rangeText, phaseText, polarityText, conditionText, shownText, rateText, observationText, rowText, countIn, rowsText};
+
+// ---- the listing
+
+// A number and the space behind it.
+fn put_number(out: &mut [u8], at: usize, n: u64) -> usize
+    ensures { λ r. ⌜ Puts (now (out .entry)) at (numberText n) r (now (out .exit)) ⌝ }
+{
+    let next = text::put_decimal(out, at, n);
+    text::put(out, next, b' ')
+}
+
+fn put_form(out: &mut [u8], at: usize, form: Form) -> usize
+    ensures { λ r. ⌜ Puts (now (out .entry)) at (formText form) r (now (out .exit)) ⌝ }
+{
+    match form {
+        Form::New { signal: _, tfom: _ } => text::put_all(out, at, b"v2 "),
+        Form::Old { version: _ } => text::put_all(out, at, b"v1 "),
+    }
+}
+
+fn put_message(
+    out: &mut [u8],
+    at: usize,
+    position: u64,
+    length: u64,
+    header: Header,
+    count: u8,
+) -> usize
+    ensures { λ r. ⌜ Puts (now (out .entry)) at (messageText position length header count) r (now (out .exit)) ⌝ }
+{
+    let form = header.form;
+    let next = put_number(out, at, position);
+    let next = put_number(out, next, length);
+    let next = put_form(out, next, form);
+    let next = put_number(out, next, count as u64);
+    let next = text::put_decimal(out, next, header.time as u64);
+    text::put(out, next, b'\n')
+}
+
+// The line of a message at a position: none where reading it is refused.
+pub fn put_line(out: &mut [u8], at: usize, position: u64, message: &[u8]) -> usize
+    ensures { λ r. ⌜ Puts (now (out .entry)) at (lineText position (now (message .entry))) r (now (out .exit)) ⌝ }
+{
+    let length = message.len() as u64;
+    let reading = macm::read(message, 0);
+    match reading {
+        Reading::Refused(_) => at,
+        Reading::HeaderOnly(header) => put_message(out, at, position, length, header, 0),
+        Reading::Observed(header, count, _) => {
+            put_message(out, at, position, length, header, count)
+        }
+    }
+}
+
+// The last line: all bytes, all messages, all gap bytes.
+pub fn put_end(out: &mut [u8], at: usize, bytes: u64, messages: u64, gap: u64) -> usize
+    ensures { λ r. ⌜ Puts (now (out .entry)) at (endText bytes messages gap) r (now (out .exit)) ⌝ }
+{
+    let next = text::put_all(out, at, b"end ");
+    let next = put_number(out, next, bytes);
+    let next = text::put_all(out, next, b"messages ");
+    let next = put_number(out, next, messages);
+    let next = text::put_all(out, next, b"gap ");
+    let next = text::put_decimal(out, next, gap);
+    text::put(out, next, b'\n')
+}
+
+// ---- an observation's row
+
+// The form and TYPE, which the old form does not have.
+fn put_signal(out: &mut [u8], at: usize, form: Form) -> usize
+    ensures { λ r. ⌜ Puts (now (out .entry)) at (signalText form) r (now (out .exit)) ⌝ }
+{
+    match form {
+        Form::New { signal, tfom: _ } => {
+            let next = text::put_all(out, at, b"v2 ");
+            put_number(out, next, signal as u64)
+        }
+        Form::Old { version: _ } => text::put_all(out, at, b"v1 - "),
+    }
+}
+
+fn put_head(out: &mut [u8], at: usize, position: u64, header: Header) -> usize
+    ensures { λ r. ⌜ Puts (now (out .entry)) at (headText position header) r (now (out .exit)) ⌝ }
+{
+    let form = header.form;
+    let next = put_number(out, at, position);
+    let next = put_number(out, next, header.time as u64);
+    put_signal(out, next, form)
+}
+
+// SID, C/N0, CONDITION and the range in metres.
+fn put_range(out: &mut [u8], at: usize, observation: Observation) -> usize
+    ensures { λ r. ⌜ Puts (now (out .entry)) at (rangeText observation) r (now (out .exit)) ⌝ }
+{
+    let next = put_number(out, at, observation.sid as u64);
+    let next = put_number(out, next, observation.cn0 as u64);
+    let next = text::put_hex(out, next, observation.condition as u64, 4);
+    let next = text::put(out, next, b' ');
+    let next = text::put_metres(out, next, track::range_of(observation.pseudorange));
+    text::put(out, next, b' ')
+}
+
+// The phase as it may be shown: of a double that may be, its bits.
+fn put_phase(out: &mut [u8], at: usize, phase: Phase, bits: u64) -> usize
+    ensures { λ r. ⌜ Puts (now (out .entry)) at (phaseText phase bits) r (now (out .exit)) ⌝ }
+{
+    match phase {
+        Phase::Withheld => text::put_all(out, at, b"withheld"),
+        Phase::NotFinite => text::put_all(out, at, b"nonfinite"),
+        Phase::Cycles(_) => text::put_cycles(out, at, bits),
+    }
+}
+
+fn put_polarity(out: &mut [u8], at: usize, polarity: Polarity) -> usize
+    ensures { λ r. ⌜ Puts (now (out .entry)) at (polarityText polarity) r (now (out .exit)) ⌝ }
+{
+    match polarity {
+        Polarity::NotKnown => text::put_all(out, at, b"unknown"),
+        Polarity::NotCorrected => text::put_all(out, at, b"uncorrected"),
+        Polarity::NeedsHalfCycle => text::put_all(out, at, b"half"),
+        Polarity::Undefined(code) => {
+            let next = text::put_all(out, at, b"undefined");
+            text::put_decimal(out, next, code as u64)
+        }
+    }
+}
+
+// CONDITION's polarity: in the old form the maker defines every bit.
+fn put_condition(out: &mut [u8], at: usize, condition: Condition) -> usize
+    ensures { λ r. ⌜ Puts (now (out .entry)) at (conditionText condition) r (now (out .exit)) ⌝ }
+{
+    match condition {
+        Condition::Flagged(flags) => {
+            let polarity = flags.polarity;
+            put_polarity(out, at, polarity)
+        }
+        Condition::MakerDefined(_) => text::put(out, at, b'-'),
+    }
+}
+
+// The phase in cycles, PHASE's bits, and the polarity.
+fn put_shown(out: &mut [u8], at: usize, form: Form, observation: Observation) -> usize
+    ensures { λ r. ⌜ Puts (now (out .entry)) at (shownText form observation) r (now (out .exit)) ⌝ }
+{
+    let bits = observation.phase;
+    let next = put_phase(out, at, track::phase_of(form, observation), bits);
+    let next = text::put(out, next, b' ');
+    let next = text::put_hex(out, next, bits, 16);
+    let next = text::put(out, next, b' ');
+    let next = put_condition(out, next, track::condition_of(form, observation));
+    text::put(out, next, b' ')
+}
+
+// The rate in hertz and the time since lock in milliseconds.
+fn put_rate(out: &mut [u8], at: usize, observation: Observation) -> usize
+    ensures { λ r. ⌜ Puts (now (out .entry)) at (rateText observation) r (now (out .exit)) ⌝ }
+{
+    let lock = observation.lock;
+    let millis = units::since_lock(lock);
+    let next = text::put_hertz(out, at, observation.rate);
+    let next = text::put(out, next, b' ');
+    let next = text::put_decimal(out, next, millis.number());
+    text::put(out, next, b'\n')
+}
+
+fn put_observation(
+    out: &mut [u8],
+    at: usize,
+    position: u64,
+    header: Header,
+    observation: Observation,
+) -> usize
+    ensures { λ r. ⌜ Puts (now (out .entry)) at (observationText position header observation) r (now (out .exit)) ⌝ }
+{
+    let form = header.form;
+    let next = put_head(out, at, position, header);
+    let next = put_range(out, next, observation);
+    let next = put_shown(out, next, form, observation);
+    put_rate(out, next, observation)
+}
+
+// The row of an observation, from what reading it answers: none where there is no observation.
+fn put_row(out: &mut [u8], at: usize, position: u64, reading: Reading) -> usize
+    ensures { λ r. ⌜ Puts (now (out .entry)) at (rowText position reading) r (now (out .exit)) ⌝ }
+{
+    match reading {
+        Reading::Refused(_) => at,
+        Reading::HeaderOnly(_) => at,
+        Reading::Observed(header, _, observation) => {
+            put_observation(out, at, position, header, observation)
+        }
+    }
+}
+
+fn count_in(reading: Reading) -> usize
+    ensures { λ r. ⌜ (r ≡ countIn reading) × (r ≤ 255) ⌝ }
+{
+    match reading {
+        Reading::Refused(_) => 0,
+        Reading::HeaderOnly(_) => 0,
+        Reading::Observed(_, count, _) => count as usize,
+    }
+}
+
+// The rows of all observations of the message at a position.
+pub fn put_rows(out: &mut [u8], at: usize, position: u64, message: &[u8]) -> usize
+    ensures { λ r. ⌜ Puts (now (out .entry)) at (rowsText position (now (message .entry))) r (now (out .exit)) ⌝ }
+{
+    let count = count_in(macm::read(message, 0));
+    let mut next = at;
+    let mut index = 0;
+    while index < count {
+        next = put_row(out, next, position, macm::read(message, index));
+        index += 1;
+    }
+    next
+}

@@ -1,0 +1,178 @@
+// Numbers as text, put into a lent buffer at a place. Each function answers the place behind what it put. A text that has no room is cut off at the
+// end of the buffer, and past the end nothing is put: whoever joins texts tests for room once, or not at all.
+ghost use mathlib.Core.Path.{_≡_};
+ghost use mathlib.Core.List.{_∷_, []};
+ghost use Prim.Native.Nat.{_+_, _<_, _≤_, _^_};
+ghost use denote.Ref.{ptr};
+ghost use lib.ListN.{length, take};
+ghost use Rattle.text.specs.Digits.{digitOf, digits, needed, decimal, fixed, metres, hertz};
+ghost use Rattle.text.specs.Double.{exponentOf, thousandths, cycles};
+ghost use Rattle.text.specs.Put.{written, Puts};
+
+// ---- bytes
+
+// One byte.
+pub fn put(out: &mut [u8], at: usize, byte: u8) -> usize
+    ensures { λ r. ⌜ Puts (now (out .entry)) at (byte ∷ []) r (now (out .exit)) ⌝ }
+{
+    if at < out.len() {
+        out[at] = byte;
+        return at + 1;
+    }
+    at
+}
+
+// The bytes of a text.
+pub fn put_all(out: &mut [u8], at: usize, text: &[u8]) -> usize
+    ensures { λ r. ⌜ Puts (now (out .entry)) at (now (text .entry)) r (now (out .exit)) ⌝ }
+{
+    let mut next = at;
+    let mut i = 0;
+    while i < text.len() {
+        next = put(out, next, text[i]);
+        i += 1;
+    }
+    next
+}
+
+// The first n bytes, or all where there are fewer: what was put, for whoever writes it out.
+pub fn front(out: &[u8], n: usize) -> &[u8]
+    ensures { λ r. ⌜ (ptr r .0 ≡ ptr (out .entry) .0) × (ptr r .1 ≡ ptr (out .entry) .1) × (now r ≡ take n (now (out .entry))) ⌝ }
+{
+    if n <= out.len() {
+        return &out[..n];
+    }
+    out
+}
+
+// ---- whole numbers
+
+fn digit(d: u64) -> u8
+    requires { ⌜ d < 16 ⌝ }
+    ensures { λ r. ⌜ r ≡ digitOf d ⌝ }
+{
+    if d < 10 { 48 + d as u8 } else { 55 + d as u8 }
+}
+
+// The last `width` digits of n, from the last one down, so that no byte is written twice.
+fn spell(out: &mut [u8], at: usize, n: u64, base: u64, width: usize)
+    requires { ⌜ (0 < base) × (base ≤ 16) × (at ≤ length (now out)) × (width ≤ 255) ⌝ }
+    ensures { λ _. ⌜ now (out .exit) ≡ written (now (out .entry)) at (digits base width n) ⌝ }
+{
+    let mut rest = n;
+    let mut i = width;
+    while 0 < i {
+        i -= 1;
+        put(out, at + i, digit(rest % base));
+        rest = rest / base;
+    }
+}
+
+fn put_digits(out: &mut [u8], at: usize, n: u64, base: u64, width: usize) -> usize
+    requires { ⌜ (0 < base) × (base ≤ 16) × (width ≤ 255) ⌝ }
+    ensures { λ r. ⌜ Puts (now (out .entry)) at (digits base width n) r (now (out .exit)) ⌝ }
+{
+    let room = out.len();
+    if room <= at {
+        return at;
+    }
+    spell(out, at, n, base, width);
+    if room - at < width {
+        return room;
+    }
+    at + width
+}
+
+// How many decimal digits n needs.
+fn width_of(n: u64) -> usize
+    ensures { λ r. ⌜ (r ≡ needed 20 n) × (r ≤ 20) ⌝ }
+{
+    let mut rest = n;
+    let mut width = 1;
+    while 10 <= rest {
+        rest = rest / 10;
+        width += 1;
+    }
+    width
+}
+
+// A whole number in decimal.
+pub fn put_decimal(out: &mut [u8], at: usize, n: u64) -> usize
+    ensures { λ r. ⌜ Puts (now (out .entry)) at (decimal n) r (now (out .exit)) ⌝ }
+{
+    put_digits(out, at, n, 10, width_of(n))
+}
+
+// The last `width` hexadecimal digits.
+pub fn put_hex(out: &mut [u8], at: usize, n: u64, width: u8) -> usize
+    ensures { λ r. ⌜ Puts (now (out .entry)) at (digits 16 width n) r (now (out .exit)) ⌝ }
+{
+    put_digits(out, at, n, 16, width as usize)
+}
+
+// ---- decimals
+
+// n / unit, with so many digits behind the point.
+fn put_fixed(out: &mut [u8], at: usize, n: u64, unit: u64, places: usize) -> usize
+    requires { ⌜ (0 < unit) × (places ≤ 255) ⌝ }
+    ensures { λ r. ⌜ Puts (now (out .entry)) at (fixed unit places n) r (now (out .exit)) ⌝ }
+{
+    let whole = put_decimal(out, at, n / unit);
+    let point = put(out, whole, b'.');
+    put_digits(out, point, n % unit, 10, places)
+}
+
+// Whole micrometres as metres, with six decimals.
+pub fn put_metres(out: &mut [u8], at: usize, micrometres: u64) -> usize
+    ensures { λ r. ⌜ Puts (now (out .entry)) at (metres micrometres) r (now (out .exit)) ⌝ }
+{
+    put_fixed(out, at, micrometres, 1000000, 6)
+}
+
+// A rate in units of 1/10000 Hz as hertz, with four decimals.
+pub fn put_hertz(out: &mut [u8], at: usize, rate: i32) -> usize
+    ensures { λ r. ⌜ Puts (now (out .entry)) at (hertz rate) r (now (out .exit)) ⌝ }
+{
+    if rate >= 0 {
+        return put_fixed(out, at, rate as u32 as u64, 10000, 4);
+    }
+    let sign = put(out, at, b'-');
+    put_fixed(out, sign, (-1 - rate) as u32 as u64 + 1, 10000, 4)
+}
+
+// The size of a double below 2^53 in thousandths, rounded once, halves up. 1000 times its digits fit 64 bits; the shift brings them to their place
+// with one binary digit more, which rounds.
+fn round_thousandths(bits: u64, exponent: u64) -> u64
+    requires { ⌜ (exponent ≡ exponentOf bits) × (exponent < 1076) ⌝ }
+    ensures { λ r. ⌜ r ≡ thousandths bits ⌝ }
+{
+    let scaled = (bits % 0x10_0000_0000_0000 + 0x10_0000_0000_0000) * 1000;
+    if exponent < 1011 {
+        return 0;
+    }
+    if exponent == 1075 {
+        return scaled;
+    }
+    let places = 1074 - exponent;
+    let half = 1u64 << places;
+    ((scaled + half) >> places) / 2
+}
+
+// A double of so many cycles, by its bits, with three decimals: or a word, where it is not finite, or so wide that it does not tell whole cycles.
+pub fn put_cycles(out: &mut [u8], at: usize, bits: u64) -> usize
+    ensures { λ r. ⌜ Puts (now (out .entry)) at (cycles bits) r (now (out .exit)) ⌝ }
+{
+    let exponent = bits / 0x10_0000_0000_0000 % 0x800;
+    if exponent == 0x7FF {
+        return put_all(out, at, b"nonfinite");
+    }
+    if 1075 < exponent {
+        return put_all(out, at, b"wide");
+    }
+    let size = round_thousandths(bits, exponent);
+    if bits < 0x8000_0000_0000_0000 {
+        return put_fixed(out, at, size, 1000, 3);
+    }
+    let sign = put(out, at, b'-');
+    put_fixed(out, sign, size, 1000, 3)
+}

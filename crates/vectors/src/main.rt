@@ -1,0 +1,139 @@
+// The messages that 264-21 and 264-04 publish, and the lines of document 01's sample table that are to be run, through the library: what it reads of
+// them is printed, and held to what the second reader prints.
+use division::Next;
+use libc::STDOUT_FILENO;
+use macm::Verdict;
+use stream::Answer;
+use stream::Reply;
+
+// ---- lines
+
+// A word, a number, and the line's end.
+fn put_count(text: &mut [u8], at: usize, word: &[u8], n: u64) -> usize {
+    let next = text::put_all(text, at, word);
+    let next = text::put_decimal(text, next, n);
+    text::put(text, next, b'\n')
+}
+
+// A message after its gap: its line and its rows.
+fn put_given(text: &mut [u8], at: usize, gap: u64, position: u64, message: &[u8]) -> usize {
+    let next = put_count(text, at, b"gap ", gap);
+    let next = lines::put_line(text, next, position, message);
+    lines::put_rows(text, next, position, message)
+}
+
+// A recording by the plain reader, started at 0 and then at each message's end.
+fn put_recording(text: &mut [u8], at: usize, recording: &[u8]) -> usize {
+    let mut next = at;
+    let mut start = 0;
+    let mut turns = u64::MAX;
+    while turns > 0 {
+        turns -= 1;
+        match division::next_message(recording, start) {
+            Next::Message {
+                position,
+                length,
+                gap,
+            } => {
+                let message = division::message_part(recording, start);
+                next = put_given(text, next, gap as u64, position as u64, message);
+                start = std::num::wrapping_add_usize(position, length);
+            }
+            Next::End { gap } => {
+                return put_count(text, next, b"gap ", gap as u64);
+            }
+            Next::Refused(_) => {
+                return next;
+            }
+        }
+    }
+    next
+}
+
+fn put_check(text: &mut [u8], at: usize, message: &[u8]) -> usize {
+    match macm::check(message) {
+        Verdict::Refused(refusal) => put_count(text, at, b"check ", refusal::number(refusal)),
+        Verdict::Accepted(_, _) => put_count(text, at, b"check ", 0),
+    }
+}
+
+fn put_answer(text: &mut [u8], at: usize, answer: Answer, output: &[u8]) -> usize {
+    match answer {
+        Answer::NeedsMore => text::put_all(text, at, b"needs more\n"),
+        Answer::Message {
+            length,
+            gap,
+            taken: _,
+        } => { put_given(text, at, gap, gap, text::front(output, length as usize)) }
+        Answer::End { gap } => put_count(text, at, b"end gap ", gap),
+        Answer::Refused(refusal) => put_count(text, at, b"refused ", refusal::number(refusal)),
+    }
+}
+
+// ---- the published messages
+
+// A file of data/: how many bytes it has, or 0 and the reason why it cannot be read.
+fn load(name: &[u8], recording: &mut [u8]) -> usize {
+    let file = os::open_read(name);
+    if file < 0 {
+        os::fail(name);
+        return 0;
+    }
+    let length = io::read_full(file, recording);
+    libc::close(file);
+    length
+}
+
+fn put_published(text: &mut [u8], at: usize, name: &[u8]) -> usize {
+    let mut recording = [0u8; 1024];
+    let length = load(name, &mut recording);
+    let next = text::put_all(text, at, name);
+    let next = text::put(text, next, b'\n');
+    put_recording(text, next, text::front(&recording, length))
+}
+
+// Where 264-04 has its two messages: the check of each, as it is printed.
+fn put_printed_checks(text: &mut [u8], at: usize) -> usize {
+    let mut recording = [0u8; 1024];
+    load(b"264-04-table-4.bin", &mut recording);
+    let next = put_check(text, at, &recording[25..184]);
+    put_check(text, next, &recording[253..412])
+}
+
+// ---- the lines to be run
+
+fn put_reply(text: &mut [u8], at: usize, reply: Reply, output: &[u8]) -> usize {
+    let answer = reply.answer;
+    put_answer(text, at, answer, output)
+}
+
+// S12 by the stream reader: fed whole, then finished twice.
+fn put_calls(text: &mut [u8], at: usize) -> usize {
+    let mut window = [0u8; 6136];
+    let mut output = [0u8; 6136];
+    let recording = b"MACMAC2\x00\x00\x00\x0E\xA0\x0C\x90\x40\x7C\x10\x00\x1E";
+    let reply = stream::feed(stream::fresh(), recording, &mut window, &mut output);
+    let next = put_reply(text, at, reply, &output);
+    let state = reply.state;
+    let reply = stream::finish(state, &mut window, &mut output);
+    let next = put_reply(text, next, reply, &output);
+    let state = reply.state;
+    let reply = stream::finish(state, &mut window, &mut output);
+    put_reply(text, next, reply, &output)
+}
+
+fn main() {
+    let mut text = [0u8; 16384];
+    let at = put_published(&mut text, 0, b"264-21-figure-1.bin");
+    let at = put_published(&mut text, at, b"264-04-table-4.bin");
+    let at = put_printed_checks(&mut text, at);
+    let at = put_published(&mut text, at, b"264-04-table-4-by-the-rule.bin");
+    let at = put_count(&mut text, at, b"range ", track::range_of(4294967295));
+    let at = text::put_all(&mut text, at, b"A then B\n");
+    let both =
+        b"MAC2\x00\x00\x00\x0E\xA0\x0C\x90\x40\x7C\x10\x00\x1EMACM\x02\x00\x0E\xA0\x0C\x90\x40\x7C\x10\x00\x1C";
+    let at = put_recording(&mut text, at, both);
+    let at = text::put_all(&mut text, at, b"S12\n");
+    let at = put_calls(&mut text, at);
+    io::write_all(STDOUT_FILENO, text::front(&text, at));
+}

@@ -1,0 +1,28 @@
+#!/bin/sh
+# Makes what is stored of the second reader's output: the sample recording with its listing and rows, and what the programs have to print for rt.
+# `samples/make.sh check` compares instead, and fails where a file differs.
+set -u
+root=$(cd "$(dirname "$0")/.." && pwd -P) || exit 2
+cd "$root/tests" || exit 2
+export CARGO_TARGET_DIR="$root/target/cargo"
+made=$(mktemp) || exit 2
+trap 'rm -f "$made"' EXIT
+mode=${1:-make} failed=0
+
+# FILE WHAT [INPUT]: the file is what `second WHAT` prints for the input
+stored() {
+    cargo run --offline --locked --quiet --bin second -- "$2" <"${3:-/dev/null}" >"$made" || exit 2
+    if [ "$mode" = check ]; then
+        cmp -s "$made" "$root/$1" || { echo "samples: $1 is not what the second reader prints" && failed=1; }
+    else
+        cp "$made" "$root/$1" && chmod 644 "$root/$1"
+    fi
+}
+
+stored samples/sortie.macm sample
+stored samples/sortie.listing listing "$root/samples/sortie.macm"
+stored samples/sortie.rows rows "$root/samples/sortie.macm"
+stored crates/listing/stdout listing "$root/crates/listing/stdin"
+stored crates/rows/stdout rows "$root/crates/rows/stdin"
+stored crates/vectors/stdout vectors
+exit $failed

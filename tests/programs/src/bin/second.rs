@@ -1,0 +1,22 @@
+//! The second reader as a program: what `listing`, `rows` and `vectors` have to print, and the sample recording.
+
+use std::io::{self, Read, Write};
+
+fn main() -> io::Result<()> {
+    let what = std::env::args().nth(1).unwrap_or_default();
+    let mut stream = Vec::new();
+    if what == "listing" || what == "rows" {
+        io::stdin().read_to_end(&mut stream)?;
+    }
+    let printed = match what.as_str() {
+        "listing" => programs::listing(&stream).into_bytes(),
+        "rows" => programs::rows(&stream).into_bytes(),
+        "vectors" => programs::vectors().into_bytes(),
+        "sample" => programs::recording(),
+        _ => {
+            eprintln!("second: one of listing, rows, vectors, sample");
+            std::process::exit(2);
+        }
+    };
+    io::stdout().write_all(&printed)
+}

@@ -1,0 +1,103 @@
+//! What the programs have to print, from the second reader and by other means than theirs: Rust's formatting, exact decimal expansions, strings.
+
+mod sample;
+mod vectors;
+
+pub use sample::recording;
+pub use vectors::vectors;
+
+use reader::{divide, lock_ms, phase, range_um, Form, Header, Message, Observation, Phase};
+
+pub const LISTING_HEADING: &str = "at bytes form obs time\n";
+pub const ROWS_HEADING: &str = "at time form type sid cn0 condition range phase bits polarity rate lock\n";
+
+fn time(header: Header) -> u32 {
+    match header {
+        Header::New { time, .. } | Header::Old { time, .. } => time,
+    }
+}
+
+/// The line of a message in the listing.
+fn line(position: usize, bytes: &[u8]) -> String {
+    let message = Message::from_bytes(bytes).expect("the division gives valid messages");
+    let form = if message.header.form() == Form::New { "v2" } else { "v1" };
+    format!("{position} {} {form} {} {}\n", bytes.len(), message.observations.len(), time(message.header))
+}
+
+/// The listing of document 01.
+pub fn listing(stream: &[u8]) -> String {
+    let division = divide(stream);
+    let mut text = LISTING_HEADING.to_string();
+    let mut gap = division.rest;
+    for given in &division.given {
+        text += &line(given.position, &stream[given.position..given.position + given.length]);
+        gap += given.gap;
+    }
+    text + &format!("end {} messages {} gap {gap}\n", stream.len(), division.given.len())
+}
+
+/// The rows of every observation of a stream.
+pub fn rows(stream: &[u8]) -> String {
+    let mut text = ROWS_HEADING.to_string();
+    for given in divide(stream).given {
+        text += &rows_of(given.position, &stream[given.position..given.position + given.length]);
+    }
+    text
+}
+
+fn rows_of(position: usize, bytes: &[u8]) -> String {
+    let message = Message::from_bytes(bytes).expect("the division gives valid messages");
+    message.observations.iter().map(|observation| row(position, message.header, observation)).collect()
+}
+
+fn row(position: usize, header: Header, observation: &Observation) -> String {
+    let form = match header {
+        Header::New { signal, .. } => format!("v2 {signal}"),
+        Header::Old { .. } => "v1 -".to_string(),
+    };
+    let Observation { sid, cn0, condition, phase: bits, .. } = *observation;
+    let range = range_um(observation.pseudorange);
+    let rate = i64::from(observation.rate);
+    let sign = if rate < 0 { "-" } else { "" };
+    format!(
+        "{position} {} {form} {sid} {cn0} {condition:04X} {}.{:06} {} {bits:016X} {} {sign}{}.{:04} {}\n",
+        time(header),
+        range / 1_000_000,
+        range % 1_000_000,
+        shown(phase(header.form(), observation)),
+        polarity(header.form(), condition),
+        rate.abs() / 10_000,
+        rate.abs() % 10_000,
+        lock_ms(observation.lock),
+    )
+}
+
+fn polarity(form: Form, condition: u16) -> String {
+    match (form, condition >> 8 & 7) {
+        (Form::Old, _) => "-".to_string(),
+        (Form::New, 0) => "unknown".to_string(),
+        (Form::New, 5) => "uncorrected".to_string(),
+        (Form::New, 7) => "half".to_string(),
+        (Form::New, code) => format!("undefined{code}"),
+    }
+}
+
+fn shown(phase: Phase) -> String {
+    match phase {
+        Phase::Withheld => "withheld".to_string(),
+        Phase::NotFinite => "nonfinite".to_string(),
+        Phase::Cycles(cycles) if cycles.abs() >= 9_007_199_254_740_992.0 => "wide".to_string(),
+        Phase::Cycles(cycles) => thousandths(cycles),
+    }
+}
+
+/// Three decimals of a double, halves away from zero: from all of its decimals, of which it has 1,074 at most.
+pub fn thousandths(value: f64) -> String {
+    let exact = format!("{:.1074}", value.abs());
+    let (whole, decimals) = exact.split_once('.').expect("decimals were asked for");
+    let mut rounded: u64 = format!("{whole}{}", &decimals[..3]).parse().expect("digits of a double below 2^53");
+    if decimals.as_bytes()[3] >= b'5' {
+        rounded += 1;
+    }
+    format!("{}{}.{:03}", if value.is_sign_negative() { "-" } else { "" }, rounded / 1000, rounded % 1000)
+}

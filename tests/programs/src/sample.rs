@@ -1,0 +1,60 @@
+//! A short recording to try the programs with: a minute of four satellites in both forms, with what a recorder meets besides.
+
+use reader::{Header, Message, Observation};
+
+/// The hertz of GPS L1 for a metre a second, and the counts of PR in a metre, both rounded: a sample need not be exact.
+const CYCLES_A_METRE: f64 = 5.2550;
+const COUNTS_A_METRE: f64 = 100.0692;
+
+/// A satellite's range in metres and its rate in metres a second, at a second of the minute.
+fn motion(satellite: usize, second: f64) -> (f64, f64) {
+    let (nearest, when, pull) = [(20_580_000.0, 20.0, 8.0), (21_400_000.0, 45.0, 5.0), (22_900_000.0, -10.0, 6.5), (23_700_000.0, 80.0, 9.0)][satellite];
+    let away = second - when;
+    (nearest + pull * away * away, 2.0 * pull * away)
+}
+
+fn observation(satellite: usize, second: f64) -> Observation {
+    let (range, speed) = motion(satellite, second);
+    Observation {
+        sid: [2, 7, 14, 24][satellite],
+        condition: [0x053F, 0x073F, 0x003F, 0x053B][satellite],
+        cn0: [47, 43, 40, 36][satellite],
+        phase: (-range * CYCLES_A_METRE / 4.0).to_bits(),
+        pseudorange: (range * COUNTS_A_METRE) as u32,
+        rate: (-speed * CYCLES_A_METRE * 10_000.0) as i32,
+        lock: (second * 500.0) as u32 + 30_000,
+    }
+}
+
+fn message(second: f64) -> Message {
+    let time = 245_370_000 + (second * 1000.0) as u32;
+    let offset = 0x407C_1000;
+    let old = second >= 30.0 && second < 45.0;
+    let header = if old { Header::Old { version: 2, time, offset } } else { Header::New { signal: 0, tfom: 3, time, offset } };
+    Message { header, observations: (0..4).map(|satellite| observation(satellite, second)).collect() }
+}
+
+/// Two messages a second. Before them noise; at second 10 a PHASE that holds the sync letters and a count of 255; at second 20 a damaged byte, at
+/// second 50 a message with no observations behind a broken sync; at the end a message that is cut short.
+pub fn recording() -> Vec<u8> {
+    let mut bytes = b"\x00\x17MAC recorder 4, sortie 211\r\n".to_vec();
+    for half_second in 0..120 {
+        let second = f64::from(half_second) / 2.0;
+        let mut next = message(second);
+        if half_second == 20 {
+            next.observations[1].phase = u64::from_be_bytes(*b"\xC1MACM\x02\xFF\x41");
+        }
+        if half_second == 100 {
+            next.observations.clear();
+            bytes.extend(b"MACMA");
+        }
+        let mut written = next.to_bytes();
+        if half_second == 40 {
+            written[50] ^= 0x10;
+        }
+        bytes.extend(written);
+    }
+    let cut = message(60.0).to_bytes();
+    bytes.extend(&cut[..70]);
+    bytes
+}
