@@ -3,7 +3,6 @@
 use macm::Form;
 use stream::State;
 use words::AnswerWords;
-use words::HeaderWords;
 use words::ObservationWords;
 use words::WrittenWords;
 ghost use mathlib.Core.Path.{_≡_};
@@ -44,7 +43,7 @@ pub extern "C" fn cs_read(message: &[u8], index: usize) -> words::ReadingWords
 }
 
 #[no_mangle]
-pub extern "C" fn cs_start(output: &mut [u8], header: HeaderWords, count: u8) -> WrittenWords
+pub extern "C" fn cs_start(output: &mut [u8], header: words::HeaderWords, count: u8) -> WrittenWords
     ensures { λ r. ⌜ (r ≡ writtenWords (startOf (headerIn header) count (now (output .entry)))) × (now (output .exit) ≡ startBytes (headerIn header) count (now (output .entry))) ⌝ }
 {
     words::written_words(compose::start(output, words::header_in(header), count))
@@ -129,8 +128,7 @@ pub extern "C" fn cs_range_um(pseudorange: u32) -> u64
 pub extern "C" fn cs_lock_ms(lock: u32) -> u64
     ensures { λ r. ⌜ r ≡ millisIn (lockMillis (lockOf lock)) ⌝ }
 {
-    let millis = units::since_lock(units::LockCount::from_count(lock));
-    millis.number()
+    units::since_lock(units::LockCount::from_count(lock)).number()
 }
 
 #[no_mangle]

@@ -185,11 +185,9 @@ fn unobserved(refusal: u64, header: HeaderWords) -> ReadingWords
 pub fn reading_words(reading: Reading) -> ReadingWords
     ensures { λ r. ⌜ r ≡ readingWords reading ⌝ }
 {
+    let none = header_of(0, 0, 0, 0, 0, 0);
     match reading {
-        Reading::Refused(refusal) => unobserved(
-            refusal::number(refusal),
-            header_of(0, 0, 0, 0, 0, 0),
-        ),
+        Reading::Refused(refusal) => unobserved(refusal::number(refusal), none),
         Reading::HeaderOnly(header) => unobserved(0, header_words(header)),
         Reading::Observed(header, count, observation) => ReadingWords {
             refusal: 0,

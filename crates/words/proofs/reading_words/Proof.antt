@@ -3,14 +3,14 @@ use borrow.Author.Needs.{needs}
 use Rattle.words.proofs.reading_words.Statement.{statement}
 use Rattle.words.proofs.reading_words.Tie as tie
 
+header-of-requires : tie.Need-header-of-requires
+header-of-requires c κs = tt
+
 enum-known-reading : tie.Need-enum-known-reading
 enum-known-reading c = search needs
 
 number-requires : tie.Need-number-requires
 number-requires c κs = tt
-
-header-of-requires : tie.Need-header-of-requires
-header-of-requires c κs = tt
 
 unobserved-requires : tie.Need-unobserved-requires
 unobserved-requires c κs = tt
@@ -37,7 +37,7 @@ observation-words-requires : tie.Need-observation-words-requires
 observation-words-requires c κs = tt
 
 returns : tie.Need-returns
-returns c = rw (c .before .before .before .before .reading .given .1, c .unobserved .ensures, c .before .header-of .ensures, c .before .before .number .ensures)
+returns c = rw (c .before .before .before .reading .given .1, c .unobserved .ensures, c .before .before .before .before .before .header-of .ensures, c .before .number .ensures)
 
 returns-2 : tie.Need-returns-2
 returns-2 c = rw (c .before .before .before .reading2 .given .1, c .unobserved2 .ensures, c .before .header-words .ensures)
@@ -49,9 +49,9 @@ pub reading-words-spec : {M : Type 1} → statement M
 reading-words-spec =
     tie.close
     (tie.spec
+    header-of-requires
     enum-known-reading
     number-requires
-    header-of-requires
     unobserved-requires
     enum-known-reading-2
     header-words-requires
