@@ -59,7 +59,7 @@ abbrev pub cs-feed-learnt : Claim board.cs_feed.ended
 cs-feed-learnt κs a z e = AllOf (cs-feed-read κs a z e .tells)
 
 pub cs-feed-determined : Determined board.cs_feed.ended cs-feed-learnt
-cs-feed-determined κs a z z′ w w′ p q = search both
+cs-feed-determined κs a z z′ w w′ p q = (both (p .answer) (q .answer), (both (p .state) (q .state), (refl, (both (p .window) (q .window), (both (p .output) (q .output), tt)))))
 
 abbrev cs-finish-ensures : (κs : Lfts 3) → Args board.cs_finish.signature κs → Res board.cs_finish.signature κs → AtExit board.cs_finish.ended κs → (w : World) → Pr w
 cs-finish-ensures κs a z e w = board.cs_finish.clauses (w .𝓤) (w .H) (w .𝓖 .A) (w .𝓜 .mem) (w .𝓡 .run) κs a .ensures tt z e
@@ -71,4 +71,4 @@ abbrev pub cs-finish-learnt : Claim board.cs_finish.ended
 cs-finish-learnt κs a z e = AllOf (cs-finish-read κs a z e .tells)
 
 pub cs-finish-determined : Determined board.cs_finish.ended cs-finish-learnt
-cs-finish-determined κs a z z′ w w′ p q = search both
+cs-finish-determined κs a z z′ w w′ p q = (both (p .answer) (q .answer), (both (p .state) (q .state), (both (p .window) (q .window), (both (p .output) (q .output), tt))))

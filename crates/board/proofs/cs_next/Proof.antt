@@ -1,13 +1,12 @@
 -- `board::cs_next` meets its contract. Assumes nothing.
-use borrow.Author.Needs.{needs}
 use Rattle.board.proofs.cs_next.Statement.{statement}
 use Rattle.board.proofs.cs_next.Tie as tie
 
 next-message-requires : tie.Need-next-message-requires
-next-message-requires c κs = search needs
+next-message-requires c κs = tt
 
 found-words-requires : tie.Need-found-words-requires
-found-words-requires c κs = search needs
+found-words-requires c κs = tt
 
 returns : tie.Need-returns
 returns c = rw (c .found-words .ensures, c .before .next-message .ensures)

@@ -1,19 +1,18 @@
 -- `board::cs_phase` meets its contract. Assumes nothing.
-use borrow.Author.Needs.{needs}
 use Rattle.board.proofs.cs_phase.Statement.{statement}
 use Rattle.board.proofs.cs_phase.Tie as tie
 
 form-in-requires : tie.Need-form-in-requires
-form-in-requires c κs = search needs
+form-in-requires c κs = tt
 
 observation-in-requires : tie.Need-observation-in-requires
-observation-in-requires c κs = search needs
+observation-in-requires c κs = tt
 
 phase-of-requires : tie.Need-phase-of-requires
-phase-of-requires c κs = search needs
+phase-of-requires c κs = tt
 
 phase-words-requires : tie.Need-phase-words-requires
-phase-words-requires c κs = search needs
+phase-words-requires c κs = tt
 
 returns : tie.Need-returns
 returns c = rw (c .phase-words .ensures, c .before .phase-of .ensures .0, c .before .before .observation-in .ensures, c .before .before .before .form-in .ensures)

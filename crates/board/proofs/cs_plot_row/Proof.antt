@@ -4,12 +4,11 @@ use lib.IntN.{ℤ}
 use mir.Syntax.{w32}
 use Rattle.track.specs.Row.{Bounded}
 use mir.ValLaws.{toZ-ofZ}
-use borrow.Author.Needs.{needs}
 use Rattle.board.proofs.cs_plot_row.Statement.{statement}
 use Rattle.board.proofs.cs_plot_row.Tie as tie
 
 plot-row-requires : tie.Need-plot-row-requires
-plot-row-requires c κs = search needs
+plot-row-requires c κs = tt
 
 returns : tie.Need-returns
 returns c =

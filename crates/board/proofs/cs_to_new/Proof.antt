@@ -4,10 +4,10 @@ use Rattle.board.proofs.cs_to_new.Statement.{statement}
 use Rattle.board.proofs.cs_to_new.Tie as tie
 
 to-new-requires : tie.Need-to-new-requires
-to-new-requires c κs = search needs
+to-new-requires c κs = tt
 
 written-words-requires : tie.Need-written-words-requires
-written-words-requires c κs = search needs
+written-words-requires c κs = tt
 
 same-length : tie.Need-same-length
 same-length c = search needs

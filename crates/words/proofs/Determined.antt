@@ -1,0 +1,28 @@
+-- Each public contract of `words` determines its answer. Assumes nothing.
+use Rattle.owed.specs.Determined.{Determined}
+use Rattle.owed.proofs.Same.{both}
+use Rattle.words.proofs as words
+
+pub form-in-determined : Determined words.form_in.ended words.form_in.Reads.Learnt
+form-in-determined κs a z z′ w w′ p q = search both
+
+pub header-in-determined : Determined words.header_in.ended words.header_in.Reads.Learnt
+header-in-determined κs a z z′ w w′ p q = search both
+
+pub observation-in-determined : Determined words.observation_in.ended words.observation_in.Reads.Learnt
+observation-in-determined κs a z z′ w w′ p q = search both
+
+pub reading-words-determined : Determined words.reading_words.ended words.reading_words.Reads.Learnt
+reading-words-determined κs a z z′ w w′ p q = search both
+
+pub written-words-determined : Determined words.written_words.ended words.written_words.Reads.Learnt
+written-words-determined κs a z z′ w w′ p q = search both
+
+pub found-words-determined : Determined words.found_words.ended words.found_words.Reads.Learnt
+found-words-determined κs a z z′ w w′ p q = search both
+
+pub answer-words-determined : Determined words.answer_words.ended words.answer_words.Reads.Learnt
+answer-words-determined κs a z z′ w w′ p q = search both
+
+pub phase-words-determined : Determined words.phase_words.ended words.phase_words.Reads.Learnt
+phase-words-determined κs a z z′ w w′ p q = search both

@@ -1,0 +1,112 @@
+-- What the C host's words stand for, and what each answer is in words: document 01's number for a refusal, 0 for none, and every other word 0 where a
+-- call refuses. Definitions only.
+use Prim.Native.Nat.{ℕ, suc, _-_, _^_, _%_}
+use mathlib.Core.Bool.{cond}
+use lib.Dec.{eqb}
+use lib.IntN.{ℤ, pos, negsuc}
+use lib.Ieee.{Float, binary64, ofBits}
+use Rattle.octets.specs.Signed.{signedOf, half}
+use Rattle.units.specs.Units.{lockOf, countIn}
+use Rattle.refusal.specs.Numbers.{numberOf}
+use Rattle.macm.specs.declared.Form.{Form}
+use Rattle.macm.specs.declared.Form.the-variants.{New, Old}
+use Rattle.macm.specs.declared.Header.{Header}
+use Rattle.macm.specs.declared.Observation.{Observation}
+use Rattle.macm.specs.declared.Reading.{Reading}
+use Rattle.macm.specs.declared.Reading.the-variants.{Refused as NotRead, HeaderOnly, Observed}
+use Rattle.compose.specs.declared.Written.{Written}
+use Rattle.compose.specs.Answers.{writtenNumber, writtenLength}
+use Rattle.division.specs.declared.Next.{Next}
+use Rattle.division.specs.declared.Next.the-variants.{Refused as NotFound, Message as Found, End as NoneLeft}
+use Rattle.stream.specs.declared.Answer.{Answer}
+use Rattle.stream.specs.declared.Answer.the-variants.{Refused, NeedsMore, Message, End}
+use Rattle.track.specs.declared.Phase.{Phase}
+use Rattle.track.specs.declared.Phase.the-variants.{Withheld, NotFinite, Cycles}
+use Rattle.words.specs.declared.HeaderWords.{HeaderWords}
+use Rattle.words.specs.declared.ObservationWords.{ObservationWords}
+use Rattle.words.specs.declared.ReadingWords.{ReadingWords}
+use Rattle.words.specs.declared.WrittenWords.{WrittenWords}
+use Rattle.words.specs.declared.FoundWords.{FoundWords}
+use Rattle.words.specs.declared.AnswerWords.{AnswerWords}
+use Rattle.words.specs.declared.PhaseWords.{PhaseWords}
+
+-- ---- words in: of each the low bits that its field holds
+abbrev pub lowBits : ℤ → ℕ
+lowBits (pos n) = n % 2 ^ 32
+lowBits (negsuc n) = 2 ^ 32 - suc (n % 2 ^ 32)
+
+-- 1 is the old form, anything else the new one
+abbrev pub formIn : ℕ → ℕ → ℕ → ℕ → Form
+formIn form version signal tfom = cond (eqb form 1) (Old (version % 256)) (New (signal % 256) (tfom % 256))
+
+abbrev pub headerIn : HeaderWords → Header
+headerIn w = record { form = formIn (w .form) (w .version) (w .signal) (w .tfom); time = w .time % 2 ^ 32; offset = w .offset % 2 ^ 32 }
+
+abbrev pub observationIn : ObservationWords → Observation
+observationIn w =
+    record {
+      sid = w .sid % 256;
+      condition = w .condition % 65536;
+      cn0 = w .cn0 % 256;
+      phase = w .phase;
+      pseudorange = w .pseudorange % 2 ^ 32;
+      rate = signedOf (half 32) (lowBits (w .rate));
+      lock = lockOf (w .lock % 2 ^ 32);
+    }
+
+-- ---- words out
+abbrev pub formWords : Form → ℕ → ℕ → HeaderWords
+formWords (New signal tfom) time offset = record { form = 2; version = 0; signal = signal; tfom = tfom; time = time; offset = offset }
+formWords (Old version) time offset = record { form = 1; version = version; signal = 0; tfom = 0; time = time; offset = offset }
+
+abbrev pub headerWords : Header → HeaderWords
+headerWords h = formWords (h .form) (h .time) (h .offset)
+
+abbrev pub observationWords : Observation → ObservationWords
+observationWords o =
+    record {
+      sid = o .sid;
+      condition = o .condition;
+      cn0 = o .cn0;
+      phase = o .phase;
+      pseudorange = o .pseudorange;
+      rate = o .rate;
+      lock = countIn (o .lock);
+    }
+
+abbrev pub noHeader : HeaderWords
+noHeader = record { form = 0; version = 0; signal = 0; tfom = 0; time = 0; offset = 0 }
+
+abbrev pub noObservation : ObservationWords
+noObservation = record { sid = 0; condition = 0; cn0 = 0; phase = 0; pseudorange = 0; rate = pos 0; lock = 0 }
+
+-- where there is no observation, whether refused or not
+abbrev pub unobservedWords : ℕ → HeaderWords → ReadingWords
+unobservedWords k h = record { refusal = k; count = 0; present = 0; header = h; observation = noObservation }
+
+abbrev pub readingWords : Reading → ReadingWords
+readingWords (NotRead r) = unobservedWords (numberOf r) noHeader
+readingWords (HeaderOnly h) = unobservedWords 0 (headerWords h)
+readingWords (Observed h n o) = record { refusal = 0; count = n; present = 1; header = headerWords h; observation = observationWords o }
+
+abbrev pub writtenWords : Written → WrittenWords
+writtenWords w = record { refusal = writtenNumber w; length = writtenLength w }
+
+-- kind 1 is a message, 2 the end
+abbrev pub foundWords : Next → FoundWords
+foundWords (NotFound r) = record { refusal = numberOf r; kind = 0; position = 0; length = 0; gap = 0 }
+foundWords (Found p n g) = record { refusal = 0; kind = 1; position = p; length = n; gap = g }
+foundWords (NoneLeft g) = record { refusal = 0; kind = 2; position = 0; length = 0; gap = g }
+
+-- kind 0 needs more, and then all of the bytes offered are taken; 1 is a message, 2 the end
+abbrev pub answerWords : Answer → ℕ → AnswerWords
+answerWords (Refused r) offered = record { refusal = numberOf r; kind = 0; length = 0; gap = 0; taken = 0 }
+answerWords NeedsMore offered = record { refusal = 0; kind = 0; length = 0; gap = 0; taken = offered }
+answerWords (Message n g t) offered = record { refusal = 0; kind = 1; length = n; gap = g; taken = t }
+answerWords (End g) offered = record { refusal = 0; kind = 2; length = 0; gap = g; taken = 0 }
+
+-- kind 0 is withheld, 1 not finite, 2 has cycles
+abbrev pub phaseWords : Phase → PhaseWords
+phaseWords Withheld = record { kind = 0; cycles = ofBits binary64 0 }
+phaseWords NotFinite = record { kind = 1; cycles = ofBits binary64 0 }
+phaseWords (Cycles x) = record { kind = 2; cycles = x }

@@ -1,0 +1,277 @@
+// The words of 64 bits that cross the C boundary: the structs of include/cablesound.h, what words that come in stand for, and what each answer of
+// the library is in words.
+use compose::Written;
+use division::Next;
+use macm::Form;
+use macm::Header;
+use macm::Observation;
+use macm::Reading;
+use stream::Answer;
+use track::Phase;
+ghost use mathlib.Core.Path.{_≡_};
+ghost use Rattle.words.specs.Words.{lowBits, formIn, headerIn, observationIn, headerWords, observationWords, unobservedWords, readingWords, writtenWords, foundWords, answerWords, phaseWords};
+
+#[repr(C)]
+pub struct HeaderWords {
+    pub form: u64,
+    pub version: u64,
+    pub signal: u64,
+    pub tfom: u64,
+    pub time: u64,
+    pub offset: u64,
+}
+
+#[repr(C)]
+pub struct ObservationWords {
+    pub sid: u64,
+    pub condition: u64,
+    pub cn0: u64,
+    pub phase: u64,
+    pub pseudorange: u64,
+    pub rate: i64,
+    pub lock: u64,
+}
+
+#[repr(C)]
+pub struct ReadingWords {
+    pub refusal: u64,
+    pub count: u64,
+    pub present: u64,
+    pub header: HeaderWords,
+    pub observation: ObservationWords,
+}
+
+#[repr(C)]
+pub struct WrittenWords {
+    pub refusal: u64,
+    pub length: u64,
+}
+
+#[repr(C)]
+pub struct FoundWords {
+    pub refusal: u64,
+    pub kind: u64,
+    pub position: u64,
+    pub length: u64,
+    pub gap: u64,
+}
+
+#[repr(C)]
+pub struct AnswerWords {
+    pub refusal: u64,
+    pub kind: u64,
+    pub length: u64,
+    pub gap: u64,
+    pub taken: u64,
+}
+
+#[repr(C)]
+pub struct PhaseWords {
+    pub kind: u64,
+    pub cycles: f64,
+}
+
+// ---- words in
+
+// The low 32 bits of a signed word.
+fn low_bits(rate: i64) -> u32
+    ensures { λ r. ⌜ r ≡ lowBits rate ⌝ }
+{
+    if rate >= 0 {
+        (rate as u64 % 4294967296) as u32
+    } else {
+        (4294967295 - (-1 - rate) as u64 % 4294967296) as u32
+    }
+}
+
+// 1 is the old form, anything else the new one.
+pub fn form_in(form: u64, version: u64, signal: u64, tfom: u64) -> Form
+    ensures { λ r. ⌜ r ≡ formIn form version signal tfom ⌝ }
+{
+    let version = (version % 256) as u8;
+    let signal = (signal % 256) as u8;
+    let tfom = (tfom % 256) as u8;
+    if form == 1 {
+        Form::Old { version }
+    } else {
+        Form::New { signal, tfom }
+    }
+}
+
+pub fn header_in(words: HeaderWords) -> Header
+    ensures { λ r. ⌜ r ≡ headerIn words ⌝ }
+{
+    let form = form_in(words.form, words.version, words.signal, words.tfom);
+    let time = (words.time % 4294967296) as u32;
+    let offset = (words.offset % 4294967296) as u32;
+    Header { form, time, offset }
+}
+
+pub fn observation_in(words: ObservationWords) -> Observation
+    ensures { λ r. ⌜ r ≡ observationIn words ⌝ }
+{
+    Observation {
+        sid: (words.sid % 256) as u8,
+        condition: (words.condition % 65536) as u16,
+        cn0: (words.cn0 % 256) as u8,
+        phase: words.phase,
+        pseudorange: (words.pseudorange % 4294967296) as u32,
+        rate: octets::signed_of(low_bits(words.rate)),
+        lock: units::LockCount::from_count((words.lock % 4294967296) as u32),
+    }
+}
+
+// ---- words out
+
+fn header_of(form: u64, version: u8, signal: u8, tfom: u8, time: u32, offset: u32) -> HeaderWords
+    ensures { λ r. ⌜ r ≡ record { form = form; version = version; signal = signal; tfom = tfom; time = time; offset = offset } ⌝ }
+{
+    HeaderWords {
+        form,
+        version: version as u64,
+        signal: signal as u64,
+        tfom: tfom as u64,
+        time: time as u64,
+        offset: offset as u64,
+    }
+}
+
+fn header_words(header: Header) -> HeaderWords
+    ensures { λ r. ⌜ r ≡ headerWords header ⌝ }
+{
+    let form = header.form;
+    match form {
+        Form::New { signal, tfom } => header_of(2, 0, signal, tfom, header.time, header.offset),
+        Form::Old { version } => header_of(1, version, 0, 0, header.time, header.offset),
+    }
+}
+
+fn observation_words(o: Observation) -> ObservationWords
+    ensures { λ r. ⌜ r ≡ observationWords o ⌝ }
+{
+    let lock = o.lock;
+    ObservationWords {
+        sid: o.sid as u64,
+        condition: o.condition as u64,
+        cn0: o.cn0 as u64,
+        phase: o.phase,
+        pseudorange: o.pseudorange as u64,
+        rate: o.rate as i64,
+        lock: lock.count() as u64,
+    }
+}
+
+// A reading that has no observation.
+fn unobserved(refusal: u64, header: HeaderWords) -> ReadingWords
+    ensures { λ r. ⌜ r ≡ unobservedWords refusal header ⌝ }
+{
+    ReadingWords {
+        refusal,
+        count: 0,
+        present: 0,
+        header,
+        observation: ObservationWords {
+            sid: 0,
+            condition: 0,
+            cn0: 0,
+            phase: 0,
+            pseudorange: 0,
+            rate: 0,
+            lock: 0,
+        },
+    }
+}
+
+pub fn reading_words(reading: Reading) -> ReadingWords
+    ensures { λ r. ⌜ r ≡ readingWords reading ⌝ }
+{
+    let none = header_of(0, 0, 0, 0, 0, 0);
+    match reading {
+        Reading::Refused(refusal) => unobserved(refusal::number(refusal), none),
+        Reading::HeaderOnly(header) => unobserved(0, header_words(header)),
+        Reading::Observed(header, count, observation) => ReadingWords {
+            refusal: 0,
+            count: count as u64,
+            present: 1,
+            header: header_words(header),
+            observation: observation_words(observation),
+        },
+    }
+}
+
+pub fn written_words(written: Written) -> WrittenWords
+    ensures { λ r. ⌜ r ≡ writtenWords written ⌝ }
+{
+    match written {
+        Written::Refused(refusal) => WrittenWords {
+            refusal: refusal::number(refusal),
+            length: 0,
+        },
+        Written::Message(length) => WrittenWords {
+            refusal: 0,
+            length: length as u64,
+        },
+    }
+}
+
+fn found_of(refusal: u64, kind: u64, position: usize, length: usize, gap: usize) -> FoundWords
+    ensures { λ r. ⌜ r ≡ record { refusal = refusal; kind = kind; position = position; length = length; gap = gap } ⌝ }
+{
+    FoundWords {
+        refusal,
+        kind,
+        position: position as u64,
+        length: length as u64,
+        gap: gap as u64,
+    }
+}
+
+pub fn found_words(next: Next) -> FoundWords
+    ensures { λ r. ⌜ r ≡ foundWords next ⌝ }
+{
+    match next {
+        Next::Refused(refusal) => found_of(refusal::number(refusal), 0, 0, 0, 0),
+        Next::Message {
+            position,
+            length,
+            gap,
+        } => found_of(0, 1, position, length, gap),
+        Next::End { gap } => found_of(0, 2, 0, 0, gap),
+    }
+}
+
+fn answer_of(refusal: u64, kind: u64, length: u64, gap: u64, taken: u64) -> AnswerWords
+    ensures { λ r. ⌜ r ≡ record { refusal = refusal; kind = kind; length = length; gap = gap; taken = taken } ⌝ }
+{
+    AnswerWords {
+        refusal,
+        kind,
+        length,
+        gap,
+        taken,
+    }
+}
+
+// All of the bytes offered are taken where more is needed.
+pub fn answer_words(reply: stream::Reply, offered: u64) -> AnswerWords
+    ensures { λ r. ⌜ r ≡ answerWords (reply .answer) offered ⌝ }
+{
+    let answer = reply.answer;
+    match answer {
+        Answer::Refused(refusal) => answer_of(refusal::number(refusal), 0, 0, 0, 0),
+        Answer::NeedsMore => answer_of(0, 0, 0, 0, offered),
+        Answer::Message { length, gap, taken } => answer_of(0, 1, length, gap, taken),
+        Answer::End { gap } => answer_of(0, 2, 0, gap, 0),
+    }
+}
+
+pub fn phase_words(phase: Phase) -> PhaseWords
+    ensures { λ r. ⌜ r ≡ phaseWords phase ⌝ }
+{
+    let cycles = 0.0;
+    match phase {
+        Phase::Withheld => PhaseWords { kind: 0, cycles },
+        Phase::NotFinite => PhaseWords { kind: 1, cycles },
+        Phase::Cycles(cycles) => PhaseWords { kind: 2, cycles },
+    }
+}
