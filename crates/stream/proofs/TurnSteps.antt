@@ -20,10 +20,10 @@ use Rattle.division.specs.Walk.{walkOf}
 use Rattle.stream.specs.declared.Filled.{Filled}
 use Rattle.stream.specs.declared.Filled.the-variants.{Message as FilledMessage, More as FilledMore, Empty}
 use Rattle.stream.specs.declared.Turn.{Turn}
-use Rattle.stream.specs.declared.Turn.the-variants.{Message, More, On}
+use Rattle.stream.specs.declared.Turn.the-variants.{Message, More, Empty as TurnEmpty, On}
 use Rattle.stream.specs.Scan.{got, stop, scan}
 use Rattle.stream.specs.Feed.{fed, feed, given, more}
-use Rattle.stream.specs.Steps.{TurnedOn, TurnedMore, Turned, Opened, FilledGiven, FilledWants, FilledEmpty, FilledAs}
+use Rattle.stream.specs.Steps.{TurnedOn, TurnedMore, TurnedEmpty, Turned, Opened, FilledGiven, FilledWants, FilledEmpty, FilledAs}
 use Rattle.stream.proofs.ScanLaws.{scan-open-at, StopsOpen}
 use Rattle.stream.proofs.FeedLaws.{fed-bulk}
 use Rattle.stream.proofs.WalkScan.{found-message, found-none}
@@ -74,6 +74,14 @@ module _ (h g k : ℕ) (w : List ℕ) (o : Opened h g k w) where
       let s : look (drop k (take h w)) ≡ unsettled = rw (o .stops) at (scan-open-at (take h w) g) in
       let f : LookFact (drop k (take h w)) unsettled = rw s at (look-fact (drop k (take h w))) in
       omega (arith, length-opened)
+
+  pub none-left : h - k ≡ 0 → TurnedEmpty h g w (g + k) w
+  unfolding opened
+  none-left z = record { stops = o .stops ∙ ap (stop (g + k)) (empty (drop k (take h w)) (length-opened ∙ z)); same = refl; sums = omega arith }
+    where
+      empty : (p : List ℕ) → length p ≡ 0 → p ≡ []
+      empty [] e = refl
+      empty (x ∷ p) e = absurd (omega arith)
 
   no-more : (p : List ℕ) → length p ≡ 0 → TurnedMore h g w p (h - k) (g + k) shifted
   unfolding opened
@@ -171,6 +179,10 @@ fed-nil : (g : ℕ) (r : List ℕ) → fed [] (stop g r) ≡ more g r
 unfolding fed
 fed-nil g r = refl
 
+fed-none : (p : List ℕ) (g : ℕ) → fed p (stop g []) ≡ feed [] g p
+unfolding feed scan
+fed-none p g = refl
+
 pub fill-empty : (h₀ g₀ : ℕ) (w₀ p : List ℕ) (h g t : ℕ) (w : List ℕ) → Filling h₀ g₀ w₀ p h g t w → h ≡ 0 → FilledEmpty h₀ g₀ w₀ p g t w
 unfolding feed
 fill-empty h₀ g₀ w₀ p h g t w f z = record { feeds = f .feeds ∙ rw z; within = f .within; same = f .same; sums = omega (arith, f .sums) }
@@ -192,6 +204,11 @@ module _ (h₀ g₀ : ℕ) (w₀ p : List ℕ) (h g t : ℕ) (w : List ℕ) (f :
   fill-wants h′ g′ e =
       let v = told (More h′ g′) e in
       record { feeds = f .feeds ∙ rw (v .none, v .stops) (fed-nil _ _); same = v .same ∙ f .same; room = v .room }
+
+  pub fill-left : (g′ : ℕ) → r ≡ TurnEmpty g′ → FilledEmpty h₀ g₀ w₀ p g′ t w′
+  fill-left g′ e =
+      let v = told (TurnEmpty g′) e in
+      record { feeds = f .feeds ∙ rw (v .stops) (fed-none (drop t p) g′); within = f .within; same = v .same ∙ f .same; sums = omega (arith, f .sums, v .sums) }
 
   pub fill-on : (h′ g′ c : ℕ) → r ≡ On h′ g′ c → Filling h₀ g₀ w₀ p h′ g′ (t + c) w′ × (0 < c)
   fill-on h′ g′ c e =

@@ -7,7 +7,7 @@ use lib.ListN.{length, take, drop}
 use Rattle.octets.specs.Parts.{over}
 use Rattle.stream.specs.declared.State.{State}
 use Rattle.stream.specs.declared.Turn.{Turn}
-use Rattle.stream.specs.declared.Turn.the-variants.{Message, More, On}
+use Rattle.stream.specs.declared.Turn.the-variants.{Message, More, Empty as TurnEmpty, On}
 use Rattle.stream.specs.declared.Filled.{Filled}
 use Rattle.stream.specs.declared.Filled.the-variants.{Message as FilledMessage, More as FilledMore, Empty}
 use Rattle.stream.specs.Scan.{scan, got, stop}
@@ -37,9 +37,15 @@ pub record TurnedMore (h g : ℕ) (w p : List ℕ) (h′ g′ : ℕ) (w′ : Lis
   pub same : length w′ ≡ length w
   pub room : h′ ≤ 6136
 
+pub record TurnedEmpty (h g : ℕ) (w : List ℕ) (g′ : ℕ) (w′ : List ℕ) : Type 0 where
+  pub stops : scan false (take h w) g ≡ stop g′ []
+  pub same : length w′ ≡ length w
+  pub sums : g′ ≡ g + h
+
 abbrev pub Turned : ℕ → ℕ → List ℕ → List ℕ → Turn → List ℕ → Type 0
 Turned h g w p (Message k n) w′ = (w′ ≡ w) × (scan false (take h w) g ≡ got (g + k) n (drop k (take h w))) × (k + n ≤ h) × (15 ≤ n)
 Turned h g w p (More h′ g′) w′ = TurnedMore h g w p h′ g′ w′
+Turned h g w p (TurnEmpty g′) w′ = TurnedEmpty h g w g′ w′
 Turned h g w p (On h′ g′ c) w′ = TurnedOn h g w p h′ g′ c w′
 
 -- the first unsettled position is k bytes on

@@ -44,10 +44,11 @@ enum Gate {
 }
 
 // A turn over the held bytes: a message, after so many of them, of so many; all of the piece is taken, with so many held and so many gap bytes;
-// or it goes on with so many held and so many gap bytes, after so many bytes more.
+// nothing is held any more, after so many gap bytes; or it goes on with so many held and so many gap bytes, after so many bytes more.
 enum Turn {
     Message(usize, usize),
     More(usize, usize),
+    Empty(usize),
     On(usize, usize, usize),
 }
 
@@ -184,6 +185,9 @@ fn go_on(held: usize, gap: usize, k: usize, window: &mut [u8], piece: &[u8]) -> 
     ensures { λ r. ⌜ Turned held gap (now (window .entry)) (now (piece .entry)) r (now (window .exit)) ⌝ }
 {
     let left = held - k;
+    if left == 0 {
+        return Turn::Empty(gap + k);
+    }
     shift(window, k, left);
     if piece.len() == 0 {
         return Turn::More(left, gap + k);
@@ -230,6 +234,9 @@ fn fill(held: usize, gap: usize, window: &mut [u8], piece: &[u8]) -> Filled
             }
             Turn::More(left, before) => {
                 return Filled::More(left, before);
+            }
+            Turn::Empty(before) => {
+                return Filled::Empty(before, taken);
             }
             Turn::On(left, before, more) => {
                 h = left;

@@ -2,7 +2,7 @@
 use Prim.Native.Nat.{_-_}
 use native.Mathlib.Omega.{arith}
 use lib.ListN.{length}
-use Rattle.stream.proofs.TurnSteps.{Filling, filling-begins, fill-given, fill-wants, fill-on, fill-empty}
+use Rattle.stream.proofs.TurnSteps.{Filling, filling-begins, fill-given, fill-wants, fill-left, fill-on, fill-empty}
 use borrow.Author.Needs.{needs}
 use Rattle.stream.proofs.fill.Statement.{statement}
 use Rattle.stream.proofs.fill.Tie as tie
@@ -43,8 +43,8 @@ one-turn-requires c κs = search needs
 enum-known-turn : tie.Need-enum-known-turn Inv-loop μ-loop
 enum-known-turn c = search needs
 
-add-t23 : tie.Need-add-t23 Inv-loop μ-loop
-add-t23 c =
+add-t24 : tie.Need-add-t24 Inv-loop μ-loop
+add-t24 c =
     let told = c .before in
     let one = told .before .before .before .before in
     let loop = one .before .before .before .before in
@@ -94,6 +94,27 @@ returns-3 c =
 enum-known-turn-3 : tie.Need-enum-known-turn-3 Inv-loop μ-loop
 enum-known-turn-3 c = search needs
 
+same-length-4 : tie.Need-same-length-4 Inv-loop μ-loop
+same-length-4 c =
+    let told = c .before in
+    let one = told .before .before .before .before in
+    let loop = one .before .before .before .before in
+    let start = loop .before .before .before in
+    let x = start .args in
+    fill-left (x .held) (x .gap) (x .window .now) (x .piece .now) (loop .loop .h) (loop .loop .g) (loop .loop .taken) (loop .loop .window) (loop .loop .inv) (one .one-turn .result) (one .one-turn .last .1 .1 .0) (one .one-turn .ensures) _ (told .turn3 .given .1) .same
+
+returns-4 : tie.Need-returns-4 Inv-loop μ-loop
+returns-4 c =
+    let told = c .before in
+    let one = told .before .before .before .before in
+    let loop = one .before .before .before .before in
+    let start = loop .before .before .before in
+    let x = start .args in
+    fill-left (x .held) (x .gap) (x .window .now) (x .piece .now) (loop .loop .h) (loop .loop .g) (loop .loop .taken) (loop .loop .window) (loop .loop .inv) (one .one-turn .result) (one .one-turn .last .1 .1 .0) (one .one-turn .ensures) _ (told .turn3 .given .1)
+
+enum-known-turn-4 : tie.Need-enum-known-turn-4 Inv-loop μ-loop
+enum-known-turn-4 c = search needs
+
 add-taken : tie.Need-add-taken Inv-loop μ-loop
 add-taken c =
     let told = c .before in
@@ -101,7 +122,7 @@ add-taken c =
     let loop = one .before .before .before .before in
     let start = loop .before .before .before in
     let x = start .args in
-    let f = fill-on (x .held) (x .gap) (x .window .now) (x .piece .now) (loop .loop .h) (loop .loop .g) (loop .loop .taken) (loop .loop .window) (loop .loop .inv) (one .one-turn .result) (one .one-turn .last .1 .1 .0) (one .one-turn .ensures) _ _ _ (told .turn3 .given .1) in
+    let f = fill-on (x .held) (x .gap) (x .window .now) (x .piece .now) (loop .loop .h) (loop .loop .g) (loop .loop .taken) (loop .loop .window) (loop .loop .inv) (one .one-turn .result) (one .one-turn .last .1 .1 .0) (one .one-turn .ensures) _ _ _ (told .turn4 .given .1) in
     omega (arith, f .0 .within, start .pre)
 
 loop-less : tie.Need-loop-less Inv-loop μ-loop
@@ -111,7 +132,7 @@ loop-less c =
     let loop = one .before .before .before .before in
     let start = loop .before .before .before in
     let x = start .args in
-    let f = fill-on (x .held) (x .gap) (x .window .now) (x .piece .now) (loop .loop .h) (loop .loop .g) (loop .loop .taken) (loop .loop .window) (loop .loop .inv) (one .one-turn .result) (one .one-turn .last .1 .1 .0) (one .one-turn .ensures) _ _ _ (told .turn3 .given .1) in
+    let f = fill-on (x .held) (x .gap) (x .window .now) (x .piece .now) (loop .loop .h) (loop .loop .g) (loop .loop .taken) (loop .loop .window) (loop .loop .inv) (one .one-turn .result) (one .one-turn .last .1 .1 .0) (one .one-turn .ensures) _ _ _ (told .turn4 .given .1) in
     omega (arith, f .0 .within, f .1, loop .loop .inv .within)
 
 loop-again : tie.Need-loop-again Inv-loop μ-loop
@@ -121,7 +142,7 @@ loop-again c =
     let loop = one .before .before .before .before in
     let start = loop .before .before .before in
     let x = start .args in
-    fill-on (x .held) (x .gap) (x .window .now) (x .piece .now) (loop .loop .h) (loop .loop .g) (loop .loop .taken) (loop .loop .window) (loop .loop .inv) (one .one-turn .result) (one .one-turn .last .1 .1 .0) (one .one-turn .ensures) _ _ _ (told .turn3 .given .1) .0
+    fill-on (x .held) (x .gap) (x .window .now) (x .piece .now) (loop .loop .h) (loop .loop .g) (loop .loop .taken) (loop .loop .window) (loop .loop .inv) (one .one-turn .result) (one .one-turn .last .1 .1 .0) (one .one-turn .ensures) _ _ _ (told .turn4 .given .1) .0
 
 pub fill-spec : {M : Type 1} → statement M
 fill-spec =
@@ -137,13 +158,16 @@ fill-spec =
     part-one-turn-end
     one-turn-requires
     enum-known-turn
-    add-t23
+    add-t24
     same-length-2
     returns-2
     enum-known-turn-2
     same-length-3
     returns-3
     enum-known-turn-3
+    same-length-4
+    returns-4
+    enum-known-turn-4
     add-taken
     loop-less
     loop-again)
