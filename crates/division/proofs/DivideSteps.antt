@@ -32,16 +32,3 @@ divide-message x xs g (suc n) e l = rw e (ap (part g (take (suc n) (x ∷ xs))) 
 pub look-nil : look [] ≡ unsettled
 unfolding look lookBy claim claimBy fit
 look-nil = refl
-
-pub stands-nil : stands [] ≡ 0
-unfolding stands lengthOf
-stands-nil = rw look-nil
-
-pub stands-le : (xs : List ℕ) → stands xs ≤ length xs
-unfolding stands lengthOf
-stands-le xs = go (look xs) (look-fact xs)
-  where
-    go : (l : Look) → LookFact xs l → lengthOf l ≤ length xs
-    go unsettled h = omega arith
-    go gap h = omega arith
-    go (message n) h = h .1

@@ -3,22 +3,23 @@
 use Prim.Native.Nat.{ℕ, zero, suc, _+_, _-_, _≤_, _<_}
 use mathlib.Core.Path.{_≡_, refl, ap, _∙_}
 use mathlib.Core.Bool.{Bool, true, false}
+use mathlib.Core.Logic.{⊎-elim}
 use mathlib.Core.List.{List, [], _∷_, _++_}
 use native.Mathlib.Omega.{arith}
 use lib.ListN.{length, take, drop, replicate, length-append, length-drop, length-replicate}
 use lib.Seq.{take-at, length-take-le}
-use borrow.Author.Tests.{le-ltb, eq-eqb}
 use Rattle.octets.specs.Parts.{over}
 use Rattle.division.specs.Division.{divide, count}
-use Rattle.division.specs.Run.{Run, gave, asRun}
+use Rattle.promises.specs.Run.{Run, gave, asRun}
 use Rattle.stream.specs.declared.State.{State}
-use Rattle.stream.specs.declared.Gate.the-variants.{Open}
 use Rattle.stream.specs.Scan.{Scan, got, stop, scan}
 use Rattle.stream.specs.Feed.{Fed, given, more, fed, feed, finish}
-use Rattle.stream.specs.Reader.{room, limit, freshState, checked, feedCheckedBy, feedChecked, laid, fedCall, feedBy, feedCall, finishedCall, finishBy, finishCall}
-use Rattle.stream.specs.Calls.{joined, offer, afterFeed, afterFinish, calls}
+use Rattle.stream.specs.Reader.{room, limit, freshState, laid, fedCall, feedCall, finishedCall, finishCall}
+use Rattle.promises.specs.Joined.{joined}
+use Rattle.promises.specs.Calls.{offer, afterFeed, afterFinish, calls}
 use Rattle.stream.proofs.ScanLaws.{ScanFact, scan-fact, Passed}
-use Rattle.stream.proofs.RunRight.{thenFed, thenFinished, run, run-right, joined-offer}
+use Rattle.stream.proofs.Cases.{Small, Bad, finish-cases, feed-cases}
+use Rattle.promises.proofs.RunRight.{thenFed, thenFinished, run, run-right, joined-offer}
 
 -- ---- what a feed keeps: the bytes add up, and the held ones fit the window
 abbrev Bound : Scan → ℕ → Type 0
@@ -70,14 +71,18 @@ record Safe (s : State) (w : List ℕ) : Type 0 where
   window : room ≤ length w
 
 module _ (s : State) (w o : List ℕ) (h : Safe s w) (lo : room ≤ length o) where
-  finish-open : checked s (length w) (length o) ≡ Open
-  unfolding checked
-  finish-open =
-      rw (le-ltb (length w) room (h .window), le-ltb (length o) room lo, le-ltb room (s .held) (h .fits), le-ltb limit (s .total) (h .below), le-ltb (s .total) (s .gap + s .held) (h .sums))
+  not-small : Small (length w) (length o) → ⊥
+  not-small b = ⊎-elim (λ l. omega (arith, h .window)) (λ l. omega arith) b
 
-  feed-open : (p : List ℕ) → s .ended ≡ 0 → s .total + length p ≤ limit → feedChecked s (length w) (length o) (length p) ≡ Open
-  unfolding feedChecked feedCheckedBy
-  feed-open p e l = rw (finish-open, eq-eqb (s .ended) 0 e, le-ltb limit (s .total + length p) l)
+  not-bad : Bad s → ⊥
+  not-bad b = ⊎-elim (λ l. omega (arith, h .fits)) (λ c. ⊎-elim (λ l. omega (arith, h .below)) (λ l. omega (arith, h .sums)) c) b
+
+  finish-goes : finishCall s w o ≡ finishedCall s w o (finish (take (s .held) w) (s .gap))
+  finish-goes = finish-cases s w o (λ c. c ≡ finishedCall s w o (finish (take (s .held) w) (s .gap))) (λ b. absurd (not-small b)) (λ b. absurd (not-bad b)) (λ a. refl)
+
+  feed-goes : (p : List ℕ) → s .ended ≡ 0 → s .total + length p ≤ limit → feedCall s p w o ≡ fedCall s w o p (feed (take (s .held) w) (s .gap) p)
+  feed-goes p e l =
+      feed-cases s w o (λ c. c ≡ fedCall s w o p (feed (take (s .held) w) (s .gap) p)) (λ b. absurd (not-small b)) (λ b. absurd (not-bad b)) p (λ n. absurd (n e)) (λ m. absurd (omega arith)) (λ a z. refl)
 
 -- ---- the window and the output after a call
 take-laid : (h w : List ℕ) → take (length h) (laid h w) ≡ h
@@ -118,11 +123,11 @@ module _ (outputs : ℕ → List ℕ) (large : (i : ℕ) → room ≤ length (ou
     finish-kept = rw length-held at (fed-kept [] (scan true (take (s .held) w) (s .gap)) (s .gap + length (take (s .held) w)) (scan-bound true (take (s .held) w) (s .gap) (omega (arith, length-held))))
 
   calls-run : (n : ℕ) → CallsRight n
-  unfolding calls run afterFeed afterFinish thenFed thenFinished feedCall finishCall joined
+  unfolding calls run afterFeed afterFinish thenFed thenFinished joined
   calls-run zero s w ps h e l = refl
   calls-run (suc n) s w [] h e l =
       let o = outputs n in
-      rw (finish-open s w o h (large n)) (go (finish (take (s .held) w) (s .gap)) (finish-kept s w h) (calls-run n))
+      rw (finish-goes s w o h (large n)) (go (finish (take (s .held) w) (s .gap)) (finish-kept s w h) (calls-run n))
     where
       go : (f : Fed) → Kept f [] (s .gap + s .held) → CallsRight n
           → afterFinish (calls n outputs) (finishedCall s w (outputs n) f .answer) (finishedCall s w (outputs n) f) ≡ thenFinished (run n) f
@@ -133,7 +138,7 @@ module _ (outputs : ℕ → List ℕ) (large : (i : ℕ) → room ≤ length (ou
       go (more g r) k ih = refl
   calls-run (suc n) s w (p ∷ ps) h e l =
       let o = outputs n in
-      rw (feed-open s w o h (large n) p e (omega (arith, length-append p (joined ps)))) (go (feed (take (s .held) w) (s .gap) p) (feed-kept s w h p) (calls-run n))
+      rw (feed-goes s w o h (large n) p e (omega (arith, length-append p (joined ps)))) (go (feed (take (s .held) w) (s .gap) p) (feed-kept s w h p) (calls-run n))
     where
       go : (f : Fed) → Kept f p (s .gap + s .held) → CallsRight n
           → afterFeed (calls n outputs) p ps (fedCall s w (outputs n) p f .answer) (fedCall s w (outputs n) p f) ≡ thenFed (run n) ps f

@@ -10,9 +10,10 @@ use lib.ListN.{length, take, drop, length-drop}
 use lib.Seq.{length-take-le, drop-drop, drop-nil}
 use lib.Dec.{ltb}
 use borrow.Author.Tests.{ltb-true, ltb-false, lt-ltb, le-ltb, eq-eqb, ne-eqb}
 use Rattle.division.specs.Division.{Division, part, stands, divide}
-use Rattle.division.specs.Places.{Place, loose, first, covered, place}
-use Rattle.division.proofs.DivideSteps.{divide-nil, divide-gap, divide-message, stands-le, stands-nil}
+use Rattle.promises.specs.Places.{Place, loose, first, covered, place}
+use Rattle.division.proofs.DivideSteps.{divide-nil, divide-gap, divide-message}
+use Rattle.promises.proofs.Stands.{stands-le, stands-nil}
 
 -- what a position is by the valid message that stands there
 abbrev mark : ℕ → Place

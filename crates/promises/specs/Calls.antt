@@ -1,17 +1,12 @@
 -- A run of calls over the pieces of a stream, as a host makes them. Definitions only.
 use Prim.Native.Nat.{ℕ, zero, suc}
-use mathlib.Core.List.{List, [], _∷_, _++_}
+use mathlib.Core.List.{List, [], _∷_}
 use lib.ListN.{take, drop}
-use Rattle.division.specs.Run.{Run, refused, unfinished, ended, gave}
+use Rattle.promises.specs.Run.{Run, refused, unfinished, ended, gave}
 use Rattle.stream.specs.declared.State.{State}
 use Rattle.stream.specs.declared.Answer.{Answer}
 use Rattle.stream.specs.declared.Answer.the-variants.{Refused, NeedsMore, Message, End}
 use Rattle.stream.specs.Reader.{Call, feedCall, finishCall}
-
--- the uncut stream
-unfoldable pub joined : List (List ℕ) → List ℕ
-joined [] = []
-joined (p ∷ ps) = p ++ joined ps
 
 -- the untaken rest of a piece is offered again; an empty rest is not
 unfoldable pub offer : List ℕ → List (List ℕ) → List (List ℕ)

@@ -1,13 +1,12 @@
--- plain-same: the plain reader, started at 0 and then at each message's end, gives the messages, gaps and end of the division, and is never refused.
--- Assumes nothing.
-use Prim.Native.Nat.{ℕ, zero, suc, _+_, _-_, _≤_, _<_}
+-- A walk to the end of a slice stops where its division has the first message, so the plain reader's answer is the walk's. Assumes nothing.
+use Prim.Native.Nat.{ℕ, suc, _+_, _-_, _≤_, _<_}
 use mathlib.Core.Path.{_≡_, refl, sym, ap, ap₂, _∙_}
 use mathlib.Core.Bool.{Bool, true, false, cond}
 use mathlib.Core.List.{List, [], _∷_}
 use native.Mathlib.Nat.{add-zero, add-suc, suc-add}
 use native.Mathlib.Omega.{arith}
 use lib.ListN.{length, take, drop, length-drop}
-use lib.Seq.{drop-drop, length-take-le, take-all}
+use lib.Seq.{length-take-le, take-all}
 use lib.Dec.{ltb, leb}
 use borrow.Author.Tests.{le-ltb, lt-ltb, ltb-false, leb-true}
 use Rattle.refusal.specs.declared.Refusal.the-variants.{PastEnd}
@@ -21,10 +20,9 @@ use Rattle.division.specs.declared.Next.{Next}
 use Rattle.division.specs.declared.Next.the-variants.{Refused, Message as Given, End}
 use Rattle.division.specs.declared.Walked.{Walked}
 use Rattle.division.specs.declared.Walked.the-variants.{Message, Unsettled}
-use Rattle.division.specs.Division.{Division, last, part, lengthOf, stands, divide, count}
+use Rattle.division.specs.Division.{Division, last, part, lengthOf, stands, divide}
 use Rattle.division.specs.Walk.{further, walkedBy, walkOf}
 use Rattle.division.specs.Plain.{firstOf, nextOf}
-use Rattle.division.specs.Run.{Run, refused, ended, gave, asRun, readOn, readPlain}
 use Rattle.division.proofs.DivideSteps.{divide-nil, divide-gap, divide-message}
 
 -- ---- at the end of the stream, where a walk stops is where the division has its first message
@@ -132,26 +130,3 @@ given-within s start p n g r e q = go (ltb (length s) start) refl
             let b : m ≡ n = cc in
             omega (arith, l, f .within, f .counted, length-drop start s)
         by (Unsettled k) f = absurd (let y : End k ≡ Given p n g = next-end s start l k f ∙ z in let x : _≡_ {A = ℕ} 0 1 = cc in omega arith)
-
--- ---- and its calls, one after the other, are the division
-module _ (s : List ℕ) where
-  plain-from : (c start : ℕ) → start ≤ length s → count (divide (drop start s) 0) < c → readPlain c s start ≡ asRun (divide (drop start s) 0)
-  unfolding readPlain readOn asRun
-  plain-from zero start l m = absurd (omega arith)
-  plain-from (suc c) start l m = go (walkOf true (drop start s) 0 0) (walk-ends (drop start s) 0 0) (plain-from c)
-    where
-      go : (w : Walked) → Ends (drop start s) 0 w → ((start : ℕ) → start ≤ length s → count (divide (drop start s) 0) < c → readPlain c s start ≡ asRun (divide (drop start s) 0))
-          → readPlain (suc c) s start ≡ asRun (divide (drop start s) 0)
-      go (Message k n t) f ih =
-          let z : f .ahead ≡ k = omega (arith, f .counted) in
-          let a : drop (f .ahead) (drop start s) ≡ drop (start + k) s = drop-drop (f .ahead) start s ∙ ap (λ i. drop (start + i) s) z in
-          let b : drop n (drop (f .ahead) (drop start s)) ≡ drop (start + k + n) s = ap (drop n) a ∙ drop-drop n (start + k) s in
-          let d : divide (drop start s) 0 ≡ part k (take n (drop (start + k) s)) (divide (drop (start + k + n) s) 0) =
-          f .is 0 ∙ ap₂ (λ i r. part i (take n r) (divide (drop n r) 0)) (sym (f .counted)) a ∙ ap (λ r. part k (take n (drop (start + k) s)) (divide r 0)) (sym (ap (drop n) a) ∙ b) in
-          let q : count (divide (drop (start + k + n) s) 0) < c = omega (arith, ap count d) in
-          ap (readOn s (readPlain c s)) (sym (next-given s start l k n f))
-          ∙ ap (gave k (take n (drop (start + k) s))) (ih (start + k + n) (omega (arith, f .within, length-drop start s)) q) ∙ ap asRun (sym d)
-      go (Unsettled k) f ih = ap (readOn s (readPlain c s)) (sym (next-end s start l k f)) ∙ ap ended (f .0) ∙ ap asRun (sym (f .1 0))
-
-  pub plain-same : (c : ℕ) → count (divide s 0) + 1 ≤ c → readPlain c s 0 ≡ asRun (divide s 0)
-  plain-same c l = plain-from c 0 (omega arith) (omega arith)

@@ -7,16 +7,14 @@ use native.Mathlib.Omega.{arith}
 use lib.ListN.{length, take, replicate, length-replicate}
 use lib.Seq.{length-take-le}
 use borrow.Author.Tests.{le-ltb}
 use Rattle.stream.specs.declared.State.{State}
 use Rattle.stream.specs.declared.Answer.the-variants.{End}
-use Rattle.stream.specs.declared.Gate.{Gate}
-use Rattle.stream.specs.declared.Gate.the-variants.{Refused as Shut, Open}
 use Rattle.stream.specs.Scan.{Scan, got, stop, scan}
 use Rattle.stream.specs.Feed.{Fed, given, more, fed, finish}
 use Rattle.stream.specs.Reader.{room, limit, checked, Call, laid, finishedCall, finishBy, finishCall}
 use Rattle.stream.specs.Steps.{Allowed}
 use Rattle.stream.proofs.ScanLaws.{ScanFact, scan-fact, StopsEmpty, scan-empty-at}
-use Rattle.stream.proofs.CallSteps.{checked-open}
+use Rattle.stream.proofs.Cases.{finish-cases}
 
 -- the state that the end leaves, in which nothing is held and the gap count is the answered gap
 abbrev atEnd : State → ℕ → State
@@ -25,28 +23,23 @@ atEnd s g = record { held = 0; gap = g; total = s .total; ended = 1 }
 abbrev endCall : State → List ℕ → List ℕ → ℕ → Call
 endCall s w o g = record { answer = End g; state = atEnd s g; window = laid [] w; output = o }
 
-pub record Ended (s : State) (w o : List ℕ) (g : ℕ) : Type 0 where
-  pub is : finishCall s w o ≡ endCall s w o g
-  pub sums : g ≤ s .total
-  pub below : s .total ≤ limit
-  pub window : room ≤ length w
+record Ended (c : Call) (s : State) (w o : List ℕ) (g : ℕ) : Type 0 where
+  is : c ≡ endCall s w o g
+  sums : g ≤ s .total
+  below : s .total ≤ limit
+  window : room ≤ length w
 
-pub ended : (s : State) (w o : List ℕ) (g : ℕ) → finishCall s w o .answer ≡ End g → Ended s w o g
-unfolding finishCall finish fed
-ended s w o g e = go (checked s (length w) (length o)) refl e
+ended : (s : State) (w o : List ℕ) (g : ℕ) → finishCall s w o .answer ≡ End g → Ended (finishCall s w o) s w o g
+unfolding finish fed
+ended s w o g = finish-cases s w o (λ c. c .answer ≡ End g → Ended c s w o g) (λ b e. absurd (let z : _≡_ {A = ℕ} 0 1 = cc in omega arith)) (λ b e. absurd (let z : _≡_ {A = ℕ} 0 1 = cc in omega arith)) (λ a. stopped (scan true (take (s .held) w) (s .gap)) (scan-fact true (take (s .held) w) (s .gap)) (scan-empty-at (take (s .held) w) (s .gap)) a)
   where
-    stopped : (x : Scan) → scan true (take (s .held) w) (s .gap) ≡ x → ScanFact (take (s .held) w) (s .gap) x → StopsEmpty x → checked s (length w) (length o) ≡ Open
-        → finishedCall s w o (fed [] x) .answer ≡ End g → Ended s w o g
-    stopped (got g′ n r) q f m c e = absurd (let z : _≡_ {A = ℕ} 0 1 = cc in omega arith)
-    stopped (stop g′ r) q f m c e =
-        let a = checked-open s (length w) (length o) c in
+    stopped : (x : Scan) → ScanFact (take (s .held) w) (s .gap) x → StopsEmpty x → Allowed s (length w) (length o) 0
+        → finishedCall s w o (fed [] x) .answer ≡ End g → Ended (finishedCall s w o (fed [] x)) s w o g
+    stopped (got g′ n r) f m a e = absurd (let z : _≡_ {A = ℕ} 0 1 = cc in omega arith)
+    stopped (stop g′ r) f m a e =
         let z : g′ ≡ g = cc in
         let k : g′ ≤ s .gap + s .held = omega (arith, f .0 .counted, f .0 .within, length-take-le (s .held) w (omega (arith, a .held, a .window))) in
-        record { is = rw (c, q, m, z); sums = omega (arith, a .sums); below = omega (arith, a .fits); window = a .window }
-
-    go : (c : Gate) → checked s (length w) (length o) ≡ c → finishBy c s w o .answer ≡ End g → Ended s w o g
-    go (Shut r) c e = absurd (let z : _≡_ {A = ℕ} 0 1 = cc in omega arith)
-    go Open c e = stopped (scan true (take (s .held) w) (s .gap)) refl (scan-fact true (take (s .held) w) (s .gap)) (scan-empty-at (take (s .held) w) (s .gap)) c e
+        record { is = rw (m, z); sums = omega (arith, a .sums); below = omega (arith, a .fits); window = a .window }
 
 laid-none : (w : List ℕ) → laid [] (laid [] w) ≡ laid [] w
 unfolding laid

@@ -5,10 +5,11 @@ use mathlib.Core.List.{List, [], _∷_, _++_, append-nil}
 use native.Mathlib.Omega.{arith}
 use lib.ListN.{length}
 use Rattle.division.specs.Division.{Division, divide, count}
-use Rattle.division.specs.Run.{Run, unfinished, ended, gave, asRun}
+use Rattle.promises.specs.Run.{Run, unfinished, ended, gave, asRun}
 use Rattle.stream.specs.Feed.{Fed, given, more, feed, finish}
-use Rattle.stream.specs.Calls.{joined, offer}
-use Rattle.stream.proofs.FeedLaws.{leftFed, feed-right, leftFinish, finish-right}
+use Rattle.promises.specs.Joined.{joined}
+use Rattle.promises.specs.Calls.{offer}
+use Rattle.promises.proofs.Left.{leftFed, feed-right, leftFinish, finish-right}
 
 -- a reader that goes on from what it holds, the gap bytes so far and the pieces to come
 abbrev pub Reader : Type 0

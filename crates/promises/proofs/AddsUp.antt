@@ -6,8 +6,8 @@ use native.Mathlib.Nat.{le-of-suc-le-suc}
 use native.Mathlib.Omega.{arith}
 use lib.ListN.{length, take}
 use lib.Seq.{length-take-le}
 use Rattle.division.specs.Division.{stands, divided, divideFrom, divide, bytes}
-use Rattle.division.proofs.DivideSteps.{stands-le}
+use Rattle.promises.proofs.Stands.{stands-le}
 
 from-bytes : (s : ℕ) (xs : List ℕ) (g : ℕ) → bytes (divideFrom s xs g) ≡ g + (length xs - s)
 unfolding divideFrom divided

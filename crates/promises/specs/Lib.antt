@@ -1,0 +1,6 @@
+pub mod Joined
+pub mod Fields
+pub mod Again
+pub mod Run
+pub mod Places
+pub mod Calls
