@@ -1,4 +1,4 @@
--- any-cut: a run of calls from a fresh state, over any pieces, gives the messages and gaps of the division of the uncut stream and its last gap; no call
+-- A run of calls from a fresh state, over any pieces, gives the messages and gaps of the division of the uncut stream and its last gap; no call
 -- is refused, and so many calls as pieces and messages, and one more, come to the end. Assumes nothing.
 use Prim.Native.Nat.{ℕ, zero, suc, _+_, _-_, _≤_, _<_}
 use mathlib.Core.Path.{_≡_, refl, ap, _∙_}
@@ -9,8 +9,8 @@ use native.Mathlib.Omega.{arith}
 use lib.ListN.{length, take, drop, replicate, length-append, length-drop, length-replicate}
 use lib.Seq.{take-at, length-take-le}
 use Rattle.octets.specs.Parts.{over}
-use Rattle.division.specs.Division.{divide, count}
-use Rattle.promises.specs.Run.{Run, gave, asRun}
+use Rattle.division.specs.Division.{divide}
+use Rattle.promises.specs.Run.{Run, gave, asRun, count}
 use Rattle.stream.specs.declared.State.{State}
 use Rattle.stream.specs.Scan.{Scan, got, stop, scan}
 use Rattle.stream.specs.Feed.{Fed, given, more, fed, feed, finish}
@@ -151,8 +151,8 @@ module _ (outputs : ℕ → List ℕ) (large : (i : ℕ) → room ≤ length (ou
           = record { fits = k .1; sums = omega arith; below = omega (arith, length-append p (joined ps)); window = omega (arith, length-laid r w (omega arith)) } in
           rw take-laid at (ih _ (laid r w) ps safe (not-ended ps) (omega (arith, length-append p (joined ps))))
 
-  pub any-cut : (ps : List (List ℕ)) (w : List ℕ) → room ≤ length w → length (joined ps) ≤ limit
+  pub calls-right : (ps : List (List ℕ)) (w : List ℕ) → room ≤ length w → length (joined ps) ≤ limit
       → (n : ℕ) → length ps + count (divide (joined ps) 0) + 1 ≤ n → calls n outputs freshState w ps ≡ asRun (divide (joined ps) 0)
-  any-cut ps w lw l n c =
+  calls-right ps w lw l n c =
       calls-run n freshState w ps (record { fits = omega arith; sums = omega arith; below = omega arith; window = lw }) (not-ended ps) (omega arith)
       ∙ run-right n [] 0 ps (omega arith)

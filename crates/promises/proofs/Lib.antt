@@ -1,3 +1,4 @@
+pub mod DemandThree
 pub mod Residue
 pub mod OneByte
 pub mod ObservationBack
@@ -9,7 +10,7 @@ pub mod ReadWrite
 pub mod WriteRead
 pub mod Conversion
 pub mod Stands
-pub mod AddsUp
+pub mod AsRun
 pub mod GivenIff
 pub mod PlainSame
 pub mod Checked

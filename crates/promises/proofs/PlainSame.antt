@@ -1,4 +1,4 @@
--- plain-same: the plain reader, started at 0 and then at each message's end, gives the messages, gaps and end of the division, and is never refused.
+-- The plain reader, started at 0 and then at each message's end, gives the messages, gaps and end of the division, and is never refused.
 -- Assumes nothing.
 use Prim.Native.Nat.{ℕ, zero, suc, _+_, _≤_, _<_}
 use mathlib.Core.Path.{_≡_, sym, ap, ap₂, _∙_}
@@ -9,10 +9,10 @@ use lib.ListN.{length, take, drop, length-drop}
 use lib.Seq.{drop-drop}
 use Rattle.division.specs.declared.Walked.{Walked}
 use Rattle.division.specs.declared.Walked.the-variants.{Message, Unsettled}
-use Rattle.division.specs.Division.{part, divide, count}
+use Rattle.division.specs.Division.{part, divide}
 use Rattle.division.specs.Walk.{walkOf}
 use Rattle.division.proofs.PlainSteps.{Ends, walk-ends, next-given, next-end}
-use Rattle.promises.specs.Run.{ended, gave, asRun, readOn, readPlain}
+use Rattle.promises.specs.Run.{ended, gave, asRun, count, readOn, readPlain}
 
 -- ---- and its calls, one after the other, are the division
 module _ (s : List ℕ) where
@@ -34,5 +34,5 @@ module _ (s : List ℕ) where
           ∙ ap (gave k (take n (drop (start + k) s))) (ih (start + k + n) (omega (arith, f .within, length-drop start s)) q) ∙ ap asRun (sym d)
       go (Unsettled k) f ih = ap (readOn s (readPlain c s)) (sym (next-end s start l k f)) ∙ ap ended (f .0) ∙ ap asRun (sym (f .1 0))
 
-  pub plain-same : (c : ℕ) → count (divide s 0) + 1 ≤ c → readPlain c s 0 ≡ asRun (divide s 0)
-  plain-same c l = plain-from c 0 (omega arith) (omega arith)
+  pub plain-right : (c : ℕ) → count (divide s 0) + 1 ≤ c → readPlain c s 0 ≡ asRun (divide s 0)
+  plain-right c l = plain-from c 0 (omega arith) (omega arith)

@@ -4,8 +4,8 @@ use mathlib.Core.Path.{_≡_, refl, ap}
 use mathlib.Core.List.{List, [], _∷_, _++_, append-nil}
 use native.Mathlib.Omega.{arith}
 use lib.ListN.{length}
-use Rattle.division.specs.Division.{Division, divide, count}
-use Rattle.promises.specs.Run.{Run, unfinished, ended, gave, asRun}
+use Rattle.division.specs.Division.{Division, divide}
+use Rattle.promises.specs.Run.{Run, unfinished, ended, gave, asRun, count}
 use Rattle.stream.specs.Feed.{Fed, given, more, feed, finish}
 use Rattle.promises.specs.Joined.{joined}
 use Rattle.promises.specs.Calls.{offer}

@@ -2,5 +2,5 @@ pub mod Joined
 pub mod Fields
 pub mod Again
 pub mod Run
-pub mod Places
+pub mod Given
 pub mod Calls
