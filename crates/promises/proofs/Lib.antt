@@ -1,3 +1,5 @@
+pub mod DemandOne
+pub mod AsksNothing
 pub mod DemandThree
 pub mod Residue
 pub mod OneByte
