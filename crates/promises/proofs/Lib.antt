@@ -2,6 +2,7 @@ pub mod DemandOne
 pub mod AsksNothing
 pub mod DemandTwo
 pub mod DemandThree
+pub mod WrongPrograms
 pub mod Residue
 pub mod OneByte
 pub mod ObservationBack
