@@ -24,14 +24,14 @@ use Rattle.macm.specs.Observation.{observationBytes}
 use Rattle.macm.specs.Read.{headerOf, readAs, readBy, readOf}
 use Rattle.macm.specs.Answers.{checkNumber, headerIn}
 use Rattle.compose.specs.Seal.{sealed}
-use Rattle.compose.specs.Set.{withObservation, setBytesBy, setBytes}
+use Rattle.compose.specs.Set.{withObservation, setOf, setBytesBy, setBytes}
 use Rattle.front.specs.Claim.{counted, claimBy, claim}
 use Rattle.front.specs.Look.{judged, lookBy, look}
 use Rattle.stream.specs.declared.State.{State}
 use Rattle.stream.specs.declared.Answer.the-variants.{NeedsMore, Message}
 use Rattle.stream.specs.Scan.{settle, seen, scanned, scan}
 use Rattle.stream.specs.Feed.{fed, feed}
-use Rattle.stream.specs.Reader.{freshState, checked, feedCheckedBy, feedChecked, feedCall}
+use Rattle.stream.specs.Reader.{freshState, checked, feedCheckedBy, feedChecked, Call, replyOf, feedCall}
 use Rattle.samples.specs.Table.{A, B, All}
 use Rattle.samples.proofs.Proved.{samples}
 use Rattle.owed.specs.Meets.{Program, Meets}
@@ -156,3 +156,23 @@ module _ (feed : Program stream.feed.ended) (guess : State → ℕ → ℕ) (mee
 
   pub not-an-invented-taken-count : ((κs : Lfts 3) (a : Args stream.feed.signature κs) (n g t : ℕ) → feed .answers κs a .answer ≡ Message n g t → t ≡ guess (a .0) (length (a .1 .0 .now))) → ⊥
   not-an-invented-taken-count invents = omega (arith, invents lifetimes _ 16 1 17 before, invents lifetimes _ 16 0 16 behind)
+
+-- ---- and no contract of these shuts out everything: what the definitions say meets it
+pub right-check : Meets macm.check.ended macm.check.Reads.Learnt (record { answers = λ κs a. verdict (a .0 .now); leaves = λ κs a. (tt, tt) })
+right-check κs a = refl
+
+pub right-read : Meets macm.read.ended macm.read.Reads.Learnt (record { answers = λ κs a. readOf (a .0 .now) (a .1 .0); leaves = λ κs a. (tt, (tt, tt)) })
+right-read κs a = refl
+
+pub right-set :
+    Meets compose.set.ended compose.set.Reads.Learnt
+    (record { answers = λ κs a. setOf (a .0 .now) (a .1 .0); leaves = λ κs a. (setBytes (a .0 .now) (a .1 .0) (a .1 .1 .0), (tt, (tt, tt))) })
+right-set κs a = (refl, refl)
+
+abbrev fedAs : (κs : Lfts 3) → Args stream.feed.signature κs → Call
+fedAs κs a = feedCall (a .0) (a .1 .0 .now) (a .1 .1 .0 .now) (a .1 .1 .1 .0 .now)
+
+pub right-feed :
+    Meets stream.feed.ended stream.feed.Reads.Learnt
+    (record { answers = λ κs a. replyOf (fedAs κs a); leaves = λ κs a. (tt, (tt, (fedAs κs a .window, (fedAs κs a .output, tt)))) })
+right-feed κs a = record { reply = refl; window = refl; output = refl }
