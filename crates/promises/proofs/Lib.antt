@@ -1,5 +1,6 @@
 pub mod DemandOne
 pub mod AsksNothing
+pub mod Numbers
 pub mod DemandTwo
 pub mod DemandThree
 pub mod WrongPrograms

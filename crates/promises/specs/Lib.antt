@@ -3,4 +3,5 @@ pub mod Fields
 pub mod Again
 pub mod Run
 pub mod Given
+pub mod Numbers
 pub mod Calls
