@@ -78,11 +78,11 @@ module _ (s : State) (w o : List ℕ) (h : Safe s w) (lo : room ≤ length o) wh
   not-bad b = ⊎-elim (λ l. omega (arith, h .fits)) (λ c. ⊎-elim (λ l. omega (arith, h .below)) (λ l. omega (arith, h .sums)) c) b
 
   finish-goes : finishCall s w o ≡ finishedCall s w o (finish (take (s .held) w) (s .gap))
-  finish-goes = finish-cases s w o (λ c. c ≡ finishedCall s w o (finish (take (s .held) w) (s .gap))) (λ b. absurd (not-small b)) (λ b. absurd (not-bad b)) (λ a. refl)
+  finish-goes = finish-cases s w o (λ c. c ≡ finishedCall s w o (finish (take (s .held) w) (s .gap))) (λ b. absurd (not-small b)) (λ i j b. absurd (not-bad b)) (λ a. refl)
 
   feed-goes : (p : List ℕ) → s .ended ≡ 0 → s .total + length p ≤ limit → feedCall s p w o ≡ fedCall s w o p (feed (take (s .held) w) (s .gap) p)
   feed-goes p e l =
-      feed-cases s w o (λ c. c ≡ fedCall s w o p (feed (take (s .held) w) (s .gap) p)) (λ b. absurd (not-small b)) (λ b. absurd (not-bad b)) p (λ n. absurd (n e)) (λ m. absurd (omega arith)) (λ a z. refl)
+      feed-cases s w o (λ c. c ≡ fedCall s w o p (feed (take (s .held) w) (s .gap) p)) (λ b. absurd (not-small b)) (λ i j b. absurd (not-bad b)) p (λ a n. absurd (n e)) (λ a z m. absurd (omega arith)) (λ a z. refl)
 
 -- ---- the window and the output after a call
 take-laid : (h w : List ℕ) → take (length h) (laid h w) ≡ h

@@ -78,14 +78,14 @@ module _ (s : State) (w o : List ℕ) (r : Refusal) where
 
   pub feed-refused : (p : List ℕ) → feedCall s p w o .answer ≡ NotFed r → feedCall s p w o ≡ refusal r s w o
   feed-refused p =
-      feed-cases s w o (λ c. c .answer ≡ NotFed r → c ≡ refusal r s w o) (λ b. same _) (λ b. same _) p (λ b. same _) (λ b. same _) (λ a z. go (feed _ _ p))
+      feed-cases s w o (λ c. c .answer ≡ NotFed r → c ≡ refusal r s w o) (λ b. same _) (λ i j b. same _) p (λ a n. same _) (λ a z m. same _) (λ a z. go (feed _ _ p))
     where
       go : (f : Fed) → fedCall s w o p f .answer ≡ NotFed r → fedCall s w o p f ≡ refusal r s w o
       go (given g m h q) e = absurd (let z : _≡_ {A = ℕ} 0 1 = cc in omega arith)
       go (more g h) e = absurd (let z : _≡_ {A = ℕ} 0 1 = cc in omega arith)
 
   pub finish-refused : finishCall s w o .answer ≡ NotFed r → finishCall s w o ≡ refusal r s w o
-  finish-refused = finish-cases s w o (λ c. c .answer ≡ NotFed r → c ≡ refusal r s w o) (λ b. same _) (λ b. same _) (λ a. go (finish _ _))
+  finish-refused = finish-cases s w o (λ c. c .answer ≡ NotFed r → c ≡ refusal r s w o) (λ b. same _) (λ i j b. same _) (λ a. go (finish _ _))
     where
       go : (f : Fed) → finishedCall s w o f .answer ≡ NotFed r → finishedCall s w o f ≡ refusal r s w o
       go (given g m h q) e = absurd (let z : _≡_ {A = ℕ} 0 1 = cc in omega arith)

@@ -31,7 +31,7 @@ record Ended (c : Call) (s : State) (w o : List ℕ) (g : ℕ) : Type 0 where
 
 ended : (s : State) (w o : List ℕ) (g : ℕ) → finishCall s w o .answer ≡ End g → Ended (finishCall s w o) s w o g
 unfolding finish fed
-ended s w o g = finish-cases s w o (λ c. c .answer ≡ End g → Ended c s w o g) (λ b e. absurd (let z : _≡_ {A = ℕ} 0 1 = cc in omega arith)) (λ b e. absurd (let z : _≡_ {A = ℕ} 0 1 = cc in omega arith)) (λ a. stopped (scan true (take (s .held) w) (s .gap)) (scan-fact true (take (s .held) w) (s .gap)) (scan-empty-at (take (s .held) w) (s .gap)) a)
+ended s w o g = finish-cases s w o (λ c. c .answer ≡ End g → Ended c s w o g) (λ b e. absurd (let z : _≡_ {A = ℕ} 0 1 = cc in omega arith)) (λ i j b e. absurd (let z : _≡_ {A = ℕ} 0 1 = cc in omega arith)) (λ a. stopped (scan true (take (s .held) w) (s .gap)) (scan-fact true (take (s .held) w) (s .gap)) (scan-empty-at (take (s .held) w) (s .gap)) a)
   where
     stopped : (x : Scan) → ScanFact (take (s .held) w) (s .gap) x → StopsEmpty x → Allowed s (length w) (length o) 0
         → finishedCall s w o (fed [] x) .answer ≡ End g → Ended (finishedCall s w o (fed [] x)) s w o g

@@ -10,6 +10,7 @@ use lib.Seq.{take-at}
 use lib.Dec.{ltb, leb, eqb}
 use borrow.Author.Tests.{ltb-true, ltb-false, leb-true, leb-false, eqb-true, eqb-false, le-ltb}
 use Rattle.octets.specs.Begins.{fit, begins}
+use Rattle.octets.specs.Parts.{part}
 use Rattle.refusal.specs.declared.Refusal.{Refusal}
 use Rattle.refusal.specs.declared.Refusal.the-variants.{NoObservation, NoRoom, OtherForm, PastEnd}
 use Rattle.refusal.proofs.Positive.{positive}
@@ -22,6 +23,7 @@ use Rattle.macm.specs.declared.Verdict.the-variants.{Refused, Accepted}
 use Rattle.macm.specs.Form.{newSync, oldSync, lead, countAt, observationAt, size}
 use Rattle.macm.specs.Check.{agrees, verdictAs, verdictBy, verdict}
 use Rattle.macm.specs.Answers.{checkNumber}
+use Rattle.macm.specs.Observation.{observationOf}
 use Rattle.macm.specs.Read.{headerOf, readAs, readBy, readOf}
 use Rattle.macm.proofs.CheckSteps.{five, is-new, is-old, is-neither, too-short, checked-by, wrong-length, accepts, wrong-checksum}
 use Rattle.macm.proofs.Leads.{lead-of}
@@ -30,12 +32,13 @@ use Rattle.compose.specs.Answers.{writtenNumber}
 use Rattle.compose.specs.Start.{startOf}
 use Rattle.compose.specs.Set.{setBy, setOf}
 use Rattle.compose.specs.Convert.{allowed, convertBy, convertOf}
-use Rattle.division.specs.Division.{Division, last, part, divide}
+use Rattle.division.specs.Division.{Division, last, part as onward, divide}
 use Rattle.division.specs.Plain.{firstOf, nextOf}
 use Rattle.division.specs.declared.Next.the-variants.{Refused as NotFound}
 use Rattle.stream.specs.declared.State.{State}
 use Rattle.stream.specs.Feed.{Fed, given, more, feed, finish}
 use Rattle.stream.specs.Reader.{feedCall, finishCall, fedCall, finishedCall}
+use Rattle.stream.specs.Steps.{Allowed}
 use Rattle.stream.proofs.Cases.{Small, Bad, finish-cases, feed-cases}
 use Rattle.promises.specs.Numbers.{readNumber, nextNumber, answerNumber, Differs, OfForm, CheckTable, AfterCheck, ReadTable, SetTable, Room, StartTable, ConvertTable, NextTable, Buffers, Sound, FinishTable, FeedTable}
 
@@ -108,3 +111,98 @@ module _ (m : List ℕ) where
         where
           not : true ≡ false → ⊥
           not e = let z : _≡_ {A = ℕ} 0 1 = cc in omega arith
+
+-- ---- reading and writing
+pub read-by-number : (m : List ℕ) (j : ℕ) → ReadTable m j (readNumber (readOf m j))
+unfolding readOf readBy readAs
+read-by-number m j = go (verdict m) refl
+  where
+    go : (v : Verdict) → verdict m ≡ v → ReadTable m j (readNumber (readBy v m j))
+    go (Refused r) e = inl (ap checkNumber (sym e), positive r)
+    go (Accepted f k) e = inr (f, k, e, test (ltb j k) refl (eqb k 0) refl (eqb j 0) refl)
+      where
+        test : (a : Bool) → ltb j k ≡ a → (b : Bool) → eqb k 0 ≡ b → (c : Bool) → eqb j 0 ≡ c
+            → let i = readNumber (cond a (Observed (headerOf f m) k (observationOf (part (observationAt f j) 24 m))) (cond b (cond c (HeaderOnly (headerOf f m)) (NotRead NoObservation)) (NotRead NoObservation))) in
+            ((i ≡ 5) × (k ≤ j) × ((j ≡ 0) × (k ≡ 0) → ⊥)) ⊎ ((i ≡ 0) × ((j < k) ⊎ ((j ≡ 0) × (k ≡ 0))))
+        test true p b q c r = inr (refl, inl (ltb-true j k p))
+        test false p true q true r = inr (refl, inr (eqb-true j 0 r, eqb-true k 0 q))
+        test false p true q false r = inl (refl, ltb-false j k p, λ z. eqb-false j 0 r (z .0))
+        test false p false q c r = inl (refl, ltb-false j k p, λ z. eqb-false k 0 q (z .1))
+
+pub set-by-number : (m : List ℕ) (j : ℕ) → SetTable m j (writtenNumber (setOf m j))
+unfolding setOf setBy
+set-by-number m j = go (verdict m) refl
+  where
+    go : (v : Verdict) → verdict m ≡ v → SetTable m j (writtenNumber (setBy v m j))
+    go (Refused r) e = inl (ap checkNumber (sym e), positive r)
+    go (Accepted f k) e = inr (f, k, e, test (ltb j k) refl)
+      where
+        test : (a : Bool) → ltb j k ≡ a → let i = writtenNumber (cond a (Message (length m)) (NotWritten NoObservation)) in ((i ≡ 5) × (k ≤ j)) ⊎ ((i ≡ 0) × (j < k))
+        test true p = inr (refl, ltb-true j k p)
+        test false p = inl (refl, ltb-false j k p)
+
+room-by-number : (needed there : ℕ) → Room needed there (writtenNumber (cond (leb needed there) (Message needed) (NotWritten NoRoom)))
+room-by-number needed there = go (leb needed there) refl
+  where
+    go : (a : Bool) → leb needed there ≡ a → Room needed there (writtenNumber (cond a (Message needed) (NotWritten NoRoom)))
+    go true p = inr (refl, leb-true needed there p)
+    go false p = inl (refl, leb-false needed there p)
+
+pub start-by-number : (h : Header) (n : ℕ) (out : List ℕ) → StartTable h n out (writtenNumber (startOf h n out))
+unfolding startOf
+start-by-number h n out = room-by-number (size (h .form) n) (length out)
+
+pub convert-by-number : (g : Form) (m out : List ℕ) → ConvertTable g m out (writtenNumber (convertOf g m out))
+unfolding convertOf convertBy
+convert-by-number g m out = go (verdict m) refl
+  where
+    go : (v : Verdict) → verdict m ≡ v → ConvertTable g m out (writtenNumber (convertBy v g out))
+    go (Refused r) e = inl (ap checkNumber (sym e), positive r)
+    go (Accepted f k) e = inr (f, k, e, test (allowed f g) refl)
+      where
+        test : (a : Bool) → allowed f g ≡ a
+            → let i = writtenNumber (cond a (cond (leb (size g k) (length out)) (Message (size g k)) (NotWritten NoRoom)) (NotWritten OtherForm)) in
+            ((i ≡ 7) × (allowed f g ≡ false)) ⊎ ((allowed f g ≡ true) × Room (size g k) (length out) i)
+        test true p = inr (p, room-by-number (size g k) (length out))
+        test false p = inl (refl, p)
+
+-- ---- the plain reader
+pub next-by-number : (s : List ℕ) (start : ℕ) → NextTable s start (nextNumber (nextOf s start))
+unfolding nextOf
+next-by-number s start = go (ltb (length s) start) refl (divide (drop start s) 0)
+  where
+    go : (a : Bool) → ltb (length s) start ≡ a → (d : Division) → NextTable s start (nextNumber (cond a (NotFound PastEnd) (firstOf start d)))
+    go true p d = inl (refl, ltb-true (length s) start p)
+    go false p (last g) = inr (refl, ltb-false (length s) start p)
+    go false p (onward g m d) = inr (refl, ltb-false (length s) start p)
+
+-- ---- the stream reader
+module _ (s : State) (w o : List ℕ) where
+  small-buffers : Small (length w) (length o) → Buffers w o → ⊥
+  small-buffers b k = ⊎-elim (λ l. omega (arith, k .0)) (λ l. omega (arith, k .1)) b
+
+  bad-state : Bad s → Sound s → ⊥
+  bad-state b k = ⊎-elim (λ l. omega (arith, k .0)) (λ c. ⊎-elim (λ l. omega (arith, k .1)) (λ l. omega (arith, k .2)) c) b
+
+  sound-state : (p : ℕ) → Allowed s (length w) (length o) p → Buffers w o × Sound s
+  sound-state p a = ((a .window, a .output), (a .held, omega (arith, a .fits), a .sums))
+
+  pub finish-by-number : FinishTable s w o (answerNumber (finishCall s w o .answer))
+  finish-by-number =
+      finish-cases s w o (λ c. FinishTable s w o (answerNumber (c .answer))) (λ b. inl (refl, small-buffers b)) (λ i j b. inr ((i, j), inl (refl, bad-state b)))
+      (λ a. let k = sound-state 0 a in inr (k .0, inr (k .1, go (finish _ _))))
+    where
+      go : (f : Fed) → answerNumber (finishedCall s w o f .answer) ≡ 0
+      go (given g m h q) = refl
+      go (more g h) = refl
+
+  pub feed-by-number : (p : List ℕ) → FeedTable s p w o (answerNumber (feedCall s p w o .answer))
+  feed-by-number p =
+      feed-cases s w o (λ c. FeedTable s p w o (answerNumber (c .answer))) (λ b. inl (refl, small-buffers b)) (λ i j b. inr ((i, j), inl (refl, bad-state b))) p
+      (λ a n. let k = sound-state 0 a in inr (k .0, inr (k .1, inl (refl, n))))
+      (λ a z l. let k = sound-state 0 a in inr (k .0, inr (k .1, inr (z, inl (refl, l)))))
+      (λ a z. let k = sound-state (length p) a in inr (k .0, inr (k .1, inr (z, inr (go (feed _ _ p), a .fits)))))
+    where
+      go : (f : Fed) → answerNumber (fedCall s w o p f .answer) ≡ 0
+      go (given g m h q) = refl
+      go (more g h) = refl

@@ -1,5 +1,5 @@
 -- Document 01's numbers, each with the condition under which an entry gives it, in the order of the tests. Definitions only.
-use Prim.Native.Nat.{ℕ, _+_, _-_, _≤_, _<_}
+use Prim.Native.Nat.{ℕ, _+_, _-_, _^_, _≤_, _<_}
 use mathlib.Core.Path.{_≡_}
 use mathlib.Core.Bool.{true, false}
 use mathlib.Core.Logic.{_⊎_}
@@ -88,16 +88,16 @@ abbrev pub Buffers : List ℕ → List ℕ → Type 0
 Buffers w o = (6136 ≤ length w) × (6136 ≤ length o)
 
 abbrev pub Sound : State → Type 0
-Sound s = (s .held ≤ 6136) × (s .total ≤ 281474976710656) × (s .gap + s .held ≤ s .total)
+Sound s = (s .held ≤ 6136) × (s .total ≤ 2 ^ 48) × (s .gap + s .held ≤ s .total)
+
+-- then what follows
+abbrev pub AfterState : (ℕ → Type 0) → State → List ℕ → List ℕ → ℕ → Type 0
+AfterState T s w o n = ((n ≡ 8) × (Buffers w o → ⊥)) ⊎ (Buffers w o × (((n ≡ 9) × (Sound s → ⊥)) ⊎ (Sound s × T n)))
 
 abbrev pub FinishTable : State → List ℕ → List ℕ → ℕ → Type 0
-FinishTable s w o n = ((n ≡ 8) × (Buffers w o → ⊥)) ⊎ (((n ≡ 9) × (Sound s → ⊥)) ⊎ ((n ≡ 0) × Buffers w o × Sound s))
+FinishTable s w o n = AfterState (λ i. i ≡ 0) s w o n
 
 -- 10 feed after the end was announced; 11 total + length of the offered piece is above 2^48
 abbrev pub FeedTable : State → List ℕ → List ℕ → List ℕ → ℕ → Type 0
 FeedTable s p w o n =
-    ((n ≡ 8) × (Buffers w o → ⊥))
-    ⊎ (((n ≡ 9) × (Sound s → ⊥))
-    ⊎ (((n ≡ 10) × (s .ended ≡ 0 → ⊥))
-    ⊎ (((n ≡ 11) × (281474976710656 < s .total + length p))
-    ⊎ ((n ≡ 0) × Buffers w o × Sound s × (s .ended ≡ 0) × (s .total + length p ≤ 281474976710656)))))
+    AfterState (λ i. ((i ≡ 10) × (s .ended ≡ 0 → ⊥)) ⊎ ((s .ended ≡ 0) × (((i ≡ 11) × (2 ^ 48 < s .total + length p)) ⊎ ((i ≡ 0) × (s .total + length p ≤ 2 ^ 48))))) s w o n
