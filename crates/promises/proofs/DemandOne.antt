@@ -1,92 +1,133 @@
--- Demand 1: a refusal changes no lent buffer and no reader state. That every entry takes all inputs is in AsksNothing.antt; that it ends is part of what
--- `rt` proves of each function. Assumes nothing.
+-- Demand 1: every entry open to callers takes all inputs and refuses by 01's numbers, and a refusal changes no lent buffer and no reader state. That an
+-- entry ends is part of what `rt` proves of each function. Assumes nothing.
 use Prim.Native.Nat.{ℕ}
-use mathlib.Core.Path.{_≡_, refl, ap, _∙_}
-use mathlib.Core.Bool.{Bool, true, false, cond}
-use mathlib.Core.List.{List, []}
-use native.Mathlib.Omega.{arith}
-use lib.ListN.{length}
-use lib.Dec.{ltb, leb}
+use mathlib.Core.Path.{_≡_, refl}
+use mathlib.Core.List.{List}
+use contract.Lifetimes.{Lfts}
+use base.Logic.{emp}
+use denote.Triple.Entry.{Args}
+use borrow.Fn.World.{World}
 use Rattle.refusal.specs.declared.Refusal.{Refusal}
-use Rattle.refusal.specs.declared.Refusal.the-variants.{NoObservation, NoRoom, OtherForm}
-use Rattle.octets.specs.Parts.{over}
 use Rattle.macm.specs.declared.Form.{Form}
 use Rattle.macm.specs.declared.Header.{Header}
 use Rattle.macm.specs.declared.Observation.{Observation}
-use Rattle.macm.specs.declared.Verdict.{Verdict}
-use Rattle.macm.specs.declared.Verdict.the-variants.{Refused, Accepted}
-use Rattle.macm.specs.Form.{size}
 use Rattle.macm.specs.Check.{verdict}
+use Rattle.macm.specs.Answers.{checkNumber}
+use Rattle.macm.specs.Read.{readOf}
 use Rattle.compose.specs.declared.Written.{Written}
-use Rattle.compose.specs.declared.Written.the-variants.{Refused as NotWritten, Message}
 use Rattle.compose.specs.Answers.{writtenNumber, writtenLength}
-use Rattle.compose.specs.Start.{started, startOf, startBytes}
-use Rattle.compose.specs.Set.{withObservation, setBy, setOf, setBytesBy, setBytes}
-use Rattle.compose.specs.Convert.{allowed, converted, convertBy, convertOf, convertBytesBy, convertBytes}
+use Rattle.compose.specs.Start.{startOf, startBytes}
+use Rattle.compose.specs.Set.{setOf, setBytes}
+use Rattle.compose.specs.Convert.{convertOf, convertBytes}
+use Rattle.division.specs.Plain.{nextOf}
 use Rattle.stream.specs.declared.State.{State}
-use Rattle.stream.specs.declared.Answer.the-variants.{Refused as NotFed, End}
-use Rattle.stream.specs.Feed.{Fed, given, more, feed, finish}
-use Rattle.stream.specs.Reader.{Call, refusal, fedCall, feedCall, finishedCall, finishCall}
-use Rattle.stream.proofs.Cases.{finish-cases, feed-cases}
+use Rattle.stream.specs.declared.Answer.the-variants.{Refused}
+use Rattle.stream.specs.Reader.{refusal, feedCall, finishCall}
+use Rattle.owed.specs.Meets.{AsksNothing}
+use Rattle.promises.specs.Numbers.{readNumber, nextNumber, answerNumber, Refuses, CheckTable, ReadTable, SetTable, StartTable, ConvertTable, NextTable, FinishTable, FeedTable}
+use Rattle.promises.proofs.Numbers as numbers
+use Rattle.promises.proofs.Unchanged as unchanged
+use Rattle.macm.proofs as macm
+use Rattle.compose.proofs as compose
+use Rattle.track.proofs as track
+use Rattle.division.proofs as division
+use Rattle.stream.proofs as stream
+use Rattle.board.proofs as board
 
--- ---- writing: where the number is not 0, the bytes lent are those at entry, and no length is handed back
-abbrev Refuses : Written → Type 0
-Refuses w = (writtenNumber w ≡ 0 → ⊥)
+-- ---- it refuses by 01's numbers: each under its condition, in the order of the tests, and 0 where none holds (promises/specs/Numbers.antt)
+pub check-by-number : (m : List ℕ) → CheckTable m (checkNumber (verdict m))
+check-by-number m = numbers.check-table m
 
+pub read-by-number : (m : List ℕ) (j : ℕ) → ReadTable m j (readNumber (readOf m j))
+read-by-number m j = numbers.read-table m j
+
+pub start-by-number : (h : Header) (n : ℕ) (out : List ℕ) → StartTable h n out (writtenNumber (startOf h n out))
+start-by-number h n out = numbers.start-table h n out
+
+pub set-by-number : (m : List ℕ) (j : ℕ) → SetTable m j (writtenNumber (setOf m j))
+set-by-number m j = numbers.set-table m j
+
+-- g is the form converted to: `to_new` and `to_old`
+pub convert-by-number : (g : Form) (m out : List ℕ) → ConvertTable g m out (writtenNumber (convertOf g m out))
+convert-by-number g m out = numbers.convert-table g m out
+
+pub next-by-number : (s : List ℕ) (start : ℕ) → NextTable s start (nextNumber (nextOf s start))
+next-by-number s start = numbers.next-table s start
+
+pub feed-by-number : (s : State) (p w o : List ℕ) → FeedTable s p w o (answerNumber (feedCall s p w o .answer))
+feed-by-number s p w o = numbers.feed-table s w o p
+
+pub finish-by-number : (s : State) (w o : List ℕ) → FinishTable s w o (answerNumber (finishCall s w o .answer))
+finish-by-number s w o = numbers.finish-table s w o
+
+-- ---- a refusal changes no lent buffer and hands back no length
 pub start-refused : (h : Header) (n : ℕ) (out : List ℕ) → Refuses (startOf h n out) → startBytes h n out ≡ out
-unfolding startOf startBytes
-start-refused h n out = go (leb (size (h .form) n) (length out))
-  where
-    go : (b : Bool) → Refuses (cond b (Message (size (h .form) n)) (NotWritten NoRoom)) → cond b (over (started h n) out) out ≡ out
-    go true r = absurd (r refl)
-    go false r = refl
+start-refused h n out r = unchanged.start-unchanged h n out r
 
 pub set-refused : (m : List ℕ) (j : ℕ) (o : Observation) → Refuses (setOf m j) → setBytes m j o ≡ m
-unfolding setOf setBy setBytes setBytesBy
-set-refused m j o = go (verdict m)
-  where
-    go : (v : Verdict) → Refuses (setBy v m j) → setBytesBy v m j o ≡ m
-    go (Refused r) h = refl
-    go (Accepted f n) h = test (ltb j n) h
-      where
-        test : (b : Bool) → Refuses (cond b (Message (length m)) (NotWritten NoObservation)) → cond b (withObservation f j o m) m ≡ m
-        test true h = absurd (h refl)
-        test false h = refl
+set-refused m j o r = unchanged.set-unchanged m j o r
 
--- to the new form g or to the old
 pub convert-refused : (g : Form) (m out : List ℕ) → Refuses (convertOf g m out) → convertBytes g m out ≡ out
-unfolding convertOf convertBy convertBytes convertBytesBy
-convert-refused g m out = go (verdict m)
-  where
-    go : (v : Verdict) → Refuses (convertBy v g out) → convertBytesBy v g m out ≡ out
-    go (Refused r) h = refl
-    go (Accepted f n) h = test (allowed f g) (leb (size g n) (length out)) h
-      where
-        test : (a b : Bool) → Refuses (cond a (cond b (Message (size g n)) (NotWritten NoRoom)) (NotWritten OtherForm)) → cond a (cond b (over (converted f g m) out) out) out ≡ out
-        test true true h = absurd (h refl)
-        test true false h = refl
-        test false b h = refl
+convert-refused g m out r = unchanged.convert-unchanged g m out r
 
 pub refused-hands-back-nothing : (w : Written) → Refuses w → writtenLength w ≡ 0
-refused-hands-back-nothing (NotWritten r) h = refl
-refused-hands-back-nothing (Message n) h = absurd (h refl)
+refused-hands-back-nothing w r = unchanged.no-length w r
 
--- ---- the stream reader: a call that answers a refusal leaves the state, the window and the output of the entry
-module _ (s : State) (w o : List ℕ) (r : Refusal) where
-  same : (q : Refusal) → NotFed q ≡ NotFed r → refusal q s w o ≡ refusal r s w o
-  same q e = let z : q ≡ r = cc in ap (λ t. refusal t s w o) z
+-- ---- nor the reader's state: `refusal r s w o` is the state, the window and the output of the entry
+pub feed-refused : (s : State) (p w o : List ℕ) (r : Refusal) → feedCall s p w o .answer ≡ Refused r → feedCall s p w o ≡ refusal r s w o
+feed-refused s p w o r e = unchanged.feed-unchanged s w o r p e
 
-  pub feed-refused : (p : List ℕ) → feedCall s p w o .answer ≡ NotFed r → feedCall s p w o ≡ refusal r s w o
-  feed-refused p =
-      feed-cases s w o (λ c. c .answer ≡ NotFed r → c ≡ refusal r s w o) (λ b. same _) (λ i j b. same _) p (λ a n. same _) (λ a z m. same _) (λ a z. go (feed _ _ p))
-    where
-      go : (f : Fed) → fedCall s w o p f .answer ≡ NotFed r → fedCall s w o p f ≡ refusal r s w o
-      go (given g m h q) e = absurd (let z : _≡_ {A = ℕ} 0 1 = cc in omega arith)
-      go (more g h) e = absurd (let z : _≡_ {A = ℕ} 0 1 = cc in omega arith)
+pub finish-refused : (s : State) (w o : List ℕ) (r : Refusal) → finishCall s w o .answer ≡ Refused r → finishCall s w o ≡ refusal r s w o
+finish-refused s w o r e = unchanged.finish-unchanged s w o r e
 
-  pub finish-refused : finishCall s w o .answer ≡ NotFed r → finishCall s w o ≡ refusal r s w o
-  finish-refused = finish-cases s w o (λ c. c .answer ≡ NotFed r → c ≡ refusal r s w o) (λ b. same _) (λ i j b. same _) (λ a. go (finish _ _))
-    where
-      go : (f : Fed) → finishedCall s w o f .answer ≡ NotFed r → finishedCall s w o f ≡ refusal r s w o
-      go (given g m h q) e = absurd (let z : _≡_ {A = ℕ} 0 1 = cc in omega arith)
-      go (more g h) e = absurd (let z : _≡_ {A = ℕ} 0 1 = cc in omega arith)
+-- ---- it takes all inputs, so nobody has to check first: what an entry asks, which the checker makes of its `requires`, always holds
+pub reading-asks-nothing :
+    AsksNothing macm.check.ended macm.check.Reads.Asked
+    × AsksNothing macm.read.ended macm.read.Reads.Asked
+    × AsksNothing division.next_message.ended division.next_message.Reads.Asked
+    × AsksNothing division.message_part.ended division.message_part.Reads.Asked
+reading-asks-nothing = ((λ κs a. tt), (λ κs a. tt), (λ κs a. tt), (λ κs a. tt))
+
+pub writing-asks-nothing :
+    AsksNothing compose.start.ended compose.start.Reads.Asked
+    × AsksNothing compose.set.ended compose.set.Reads.Asked
+    × AsksNothing compose.to_new.ended compose.to_new.Reads.Asked
+    × AsksNothing compose.to_old.ended compose.to_old.Reads.Asked
+writing-asks-nothing = ((λ κs a. tt), (λ κs a. tt), (λ κs a. tt), (λ κs a. tt))
+
+pub streaming-asks-nothing :
+    AsksNothing stream.fresh.ended stream.fresh.Reads.Asked
+    × AsksNothing stream.feed.ended stream.feed.Reads.Asked
+    × AsksNothing stream.finish.ended stream.finish.Reads.Asked
+streaming-asks-nothing = ((λ κs a. tt), (λ κs a. tt), (λ κs a. tt))
+
+pub track-asks-nothing :
+    AsksNothing track.range_of.ended track.range_of.Reads.Asked
+    × AsksNothing track.plot_row.ended track.plot_row.Reads.Asked
+    × AsksNothing track.phase_of.ended track.phase_of.Reads.Asked
+    × AsksNothing track.offset_of.ended track.offset_of.Reads.Asked
+    × AsksNothing track.condition_of.ended track.condition_of.Reads.Asked
+track-asks-nothing = ((λ κs a. tt), (λ κs a. tt), (λ κs a. tt), (λ κs a. tt), (λ κs a. tt))
+
+pub board-asks-nothing :
+    AsksNothing board.cs_check.ended board.cs_check.Reads.Asked
+    × AsksNothing board.cs_read.ended board.cs_read.Reads.Asked
+    × AsksNothing board.cs_start.ended board.cs_start.Reads.Asked
+    × AsksNothing board.cs_set.ended board.cs_set.Reads.Asked
+    × AsksNothing board.cs_to_new.ended board.cs_to_new.Reads.Asked
+    × AsksNothing board.cs_to_old.ended board.cs_to_old.Reads.Asked
+    × AsksNothing board.cs_next.ended board.cs_next.Reads.Asked
+    × AsksNothing board.cs_fresh.ended board.cs_fresh.Reads.Asked
+    × AsksNothing board.cs_range_um.ended board.cs_range_um.Reads.Asked
+    × AsksNothing board.cs_lock_ms.ended board.cs_lock_ms.Reads.Asked
+    × AsksNothing board.cs_phase.ended board.cs_phase.Reads.Asked
+    × AsksNothing board.cs_plot_row.ended board.cs_plot_row.Reads.Asked
+board-asks-nothing =
+    ((λ κs a. tt), (λ κs a. tt), (λ κs a. tt), (λ κs a. tt), (λ κs a. tt), (λ κs a. tt), (λ κs a. tt), (λ κs a. tt), (λ κs a. tt), (λ κs a. tt), (λ κs a. tt), (λ κs a. tt))
+
+-- the two over a lent state are walked by hand and so have no `Reads`: their `requires` is empty in every model of the logic
+pub cs-feed-asks-nothing : (w : World) (κs : Lfts 4) (a : Args board.cs_feed.signature κs) → board.cs_feed.clauses (w .𝓤) (w .H) (w .𝓖 .A) (w .𝓜 .mem) (w .𝓡 .run) κs a .requires tt ≡ emp (w .𝓤)
+cs-feed-asks-nothing w κs a = refl
+
+pub cs-finish-asks-nothing : (w : World) (κs : Lfts 3) (a : Args board.cs_finish.signature κs) → board.cs_finish.clauses (w .𝓤) (w .H) (w .𝓖 .A) (w .𝓜 .mem) (w .𝓡 .run) κs a .requires tt ≡ emp (w .𝓤)
+cs-finish-asks-nothing w κs a = refl

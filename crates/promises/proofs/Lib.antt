@@ -1,9 +1,9 @@
 pub mod DemandOne
-pub mod AsksNothing
-pub mod Numbers
 pub mod DemandTwo
 pub mod DemandThree
 pub mod WrongPrograms
+pub mod Numbers
+pub mod Unchanged
 pub mod Residue
 pub mod OneByte
 pub mod ObservationBack

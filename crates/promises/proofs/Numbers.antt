@@ -89,9 +89,9 @@ module _ (m : List ℕ) where
       go (New t q) = refl
       go (Old v) = refl
 
-  pub check-by-number : CheckTable m (checkNumber (verdict m))
+  pub check-table : CheckTable m (checkNumber (verdict m))
   unfolding verdictBy
-  check-by-number = go (ltb (length m) 15) refl (begins newSync m) refl (begins oldSync m) refl
+  check-table = go (ltb (length m) 15) refl (begins newSync m) refl (begins oldSync m) refl
     where
       go : (a : Bool) → ltb (length m) 15 ≡ a → (b : Bool) → begins newSync m ≡ b → (c : Bool) → begins oldSync m ≡ c → CheckTable m (checkNumber (verdict m))
       go true p b q c r = let l = ltb-true (length m) 15 p in inl (ap checkNumber (sym (too-short m l)), l)
@@ -113,9 +113,9 @@ module _ (m : List ℕ) where
           not e = let z : _≡_ {A = ℕ} 0 1 = cc in omega arith
 
 -- ---- reading and writing
-pub read-by-number : (m : List ℕ) (j : ℕ) → ReadTable m j (readNumber (readOf m j))
+pub read-table : (m : List ℕ) (j : ℕ) → ReadTable m j (readNumber (readOf m j))
 unfolding readOf readBy readAs
-read-by-number m j = go (verdict m) refl
+read-table m j = go (verdict m) refl
   where
     go : (v : Verdict) → verdict m ≡ v → ReadTable m j (readNumber (readBy v m j))
     go (Refused r) e = inl (ap checkNumber (sym e), positive r)
@@ -129,9 +129,9 @@ read-by-number m j = go (verdict m) refl
         test false p true q false r = inl (refl, ltb-false j k p, λ z. eqb-false j 0 r (z .0))
         test false p false q c r = inl (refl, ltb-false j k p, λ z. eqb-false k 0 q (z .1))
 
-pub set-by-number : (m : List ℕ) (j : ℕ) → SetTable m j (writtenNumber (setOf m j))
+pub set-table : (m : List ℕ) (j : ℕ) → SetTable m j (writtenNumber (setOf m j))
 unfolding setOf setBy
-set-by-number m j = go (verdict m) refl
+set-table m j = go (verdict m) refl
   where
     go : (v : Verdict) → verdict m ≡ v → SetTable m j (writtenNumber (setBy v m j))
     go (Refused r) e = inl (ap checkNumber (sym e), positive r)
@@ -141,20 +141,20 @@ set-by-number m j = go (verdict m) refl
         test true p = inr (refl, ltb-true j k p)
         test false p = inl (refl, ltb-false j k p)
 
-room-by-number : (needed there : ℕ) → Room needed there (writtenNumber (cond (leb needed there) (Message needed) (NotWritten NoRoom)))
-room-by-number needed there = go (leb needed there) refl
+room-table : (needed there : ℕ) → Room needed there (writtenNumber (cond (leb needed there) (Message needed) (NotWritten NoRoom)))
+room-table needed there = go (leb needed there) refl
   where
     go : (a : Bool) → leb needed there ≡ a → Room needed there (writtenNumber (cond a (Message needed) (NotWritten NoRoom)))
     go true p = inr (refl, leb-true needed there p)
     go false p = inl (refl, leb-false needed there p)
 
-pub start-by-number : (h : Header) (n : ℕ) (out : List ℕ) → StartTable h n out (writtenNumber (startOf h n out))
+pub start-table : (h : Header) (n : ℕ) (out : List ℕ) → StartTable h n out (writtenNumber (startOf h n out))
 unfolding startOf
-start-by-number h n out = room-by-number (size (h .form) n) (length out)
+start-table h n out = room-table (size (h .form) n) (length out)
 
-pub convert-by-number : (g : Form) (m out : List ℕ) → ConvertTable g m out (writtenNumber (convertOf g m out))
+pub convert-table : (g : Form) (m out : List ℕ) → ConvertTable g m out (writtenNumber (convertOf g m out))
 unfolding convertOf convertBy
-convert-by-number g m out = go (verdict m) refl
+convert-table g m out = go (verdict m) refl
   where
     go : (v : Verdict) → verdict m ≡ v → ConvertTable g m out (writtenNumber (convertBy v g out))
     go (Refused r) e = inl (ap checkNumber (sym e), positive r)
@@ -163,13 +163,13 @@ convert-by-number g m out = go (verdict m) refl
         test : (a : Bool) → allowed f g ≡ a
             → let i = writtenNumber (cond a (cond (leb (size g k) (length out)) (Message (size g k)) (NotWritten NoRoom)) (NotWritten OtherForm)) in
             ((i ≡ 7) × (allowed f g ≡ false)) ⊎ ((allowed f g ≡ true) × Room (size g k) (length out) i)
-        test true p = inr (p, room-by-number (size g k) (length out))
+        test true p = inr (p, room-table (size g k) (length out))
         test false p = inl (refl, p)
 
 -- ---- the plain reader
-pub next-by-number : (s : List ℕ) (start : ℕ) → NextTable s start (nextNumber (nextOf s start))
+pub next-table : (s : List ℕ) (start : ℕ) → NextTable s start (nextNumber (nextOf s start))
 unfolding nextOf
-next-by-number s start = go (ltb (length s) start) refl (divide (drop start s) 0)
+next-table s start = go (ltb (length s) start) refl (divide (drop start s) 0)
   where
     go : (a : Bool) → ltb (length s) start ≡ a → (d : Division) → NextTable s start (nextNumber (cond a (NotFound PastEnd) (firstOf start d)))
     go true p d = inl (refl, ltb-true (length s) start p)
@@ -187,8 +187,8 @@ module _ (s : State) (w o : List ℕ) where
   sound-state : (p : ℕ) → Allowed s (length w) (length o) p → Buffers w o × Sound s
   sound-state p a = ((a .window, a .output), (a .held, omega (arith, a .fits), a .sums))
 
-  pub finish-by-number : FinishTable s w o (answerNumber (finishCall s w o .answer))
-  finish-by-number =
+  pub finish-table : FinishTable s w o (answerNumber (finishCall s w o .answer))
+  finish-table =
       finish-cases s w o (λ c. FinishTable s w o (answerNumber (c .answer))) (λ b. inl (refl, small-buffers b)) (λ i j b. inr ((i, j), inl (refl, bad-state b)))
       (λ a. let k = sound-state 0 a in inr (k .0, inr (k .1, go (finish _ _))))
     where
@@ -196,8 +196,8 @@ module _ (s : State) (w o : List ℕ) where
       go (given g m h q) = refl
       go (more g h) = refl
 
-  pub feed-by-number : (p : List ℕ) → FeedTable s p w o (answerNumber (feedCall s p w o .answer))
-  feed-by-number p =
+  pub feed-table : (p : List ℕ) → FeedTable s p w o (answerNumber (feedCall s p w o .answer))
+  feed-table p =
       feed-cases s w o (λ c. FeedTable s p w o (answerNumber (c .answer))) (λ b. inl (refl, small-buffers b)) (λ i j b. inr ((i, j), inl (refl, bad-state b))) p
       (λ a n. let k = sound-state 0 a in inr (k .0, inr (k .1, inl (refl, n))))
       (λ a z l. let k = sound-state 0 a in inr (k .0, inr (k .1, inr (z, inl (refl, l)))))

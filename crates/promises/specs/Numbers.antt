@@ -17,6 +17,8 @@ use Rattle.macm.specs.declared.Verdict.the-variants.{Accepted}
 use Rattle.macm.specs.Form.{newSync, oldSync, lead, countAt, size}
 use Rattle.macm.specs.Check.{verdict}
 use Rattle.macm.specs.Answers.{checkNumber}
+use Rattle.compose.specs.declared.Written.{Written}
+use Rattle.compose.specs.Answers.{writtenNumber}
 use Rattle.compose.specs.Convert.{allowed}
 use Rattle.division.specs.declared.Next.{Next}
 use Rattle.division.specs.declared.Next.the-variants.{Refused as NotFound, Message as Found, End as NoneLeft}
@@ -40,6 +42,10 @@ answerNumber (Refused r) = numberOf r
 answerNumber NeedsMore = 0
 answerNumber (Message n g t) = 0
 answerNumber (End g) = 0
+
+-- a call of writing refuses where its number is not 0
+abbrev pub Refuses : Written → Type 0
+Refuses w = (writtenNumber w ≡ 0 → ⊥)
 
 -- ---- the message check: 1 fewer than 15 bytes; 2 the first four are neither sync string; 3 the number of bytes is not the one that form and N
 -- require; 4 the checksum differs
