@@ -1,14 +1,13 @@
 -- The division, a position at a time. Assumes nothing.
-use Prim.Native.Nat.{ℕ, zero, suc, _≤_, _<_}
+use Prim.Native.Nat.{ℕ, zero, suc, _<_}
 use mathlib.Core.Path.{_≡_, refl, ap}
 use mathlib.Core.List.{List, [], _∷_}
 use native.Mathlib.Omega.{arith}
-use lib.ListN.{length, take, drop}
+use lib.ListN.{take, drop}
 use Rattle.octets.specs.Begins.{fit}
 use Rattle.front.specs.Claim.{claimBy, claim}
-use Rattle.front.specs.Look.{Look, unsettled, gap, message, lookBy, look}
-use Rattle.front.proofs.Bounds.{LookFact, look-fact}
-use Rattle.division.specs.Division.{Division, last, part, lengthOf, stands, divided, divideFrom, divide}
+use Rattle.front.specs.Look.{unsettled, lookBy, look}
+use Rattle.division.specs.Division.{last, part, stands, divided, divideFrom, divide}
 
 skipped : (s : ℕ) (xs : List ℕ) (g : ℕ) → divideFrom s xs g ≡ divide (drop s xs) g
 unfolding divide divideFrom

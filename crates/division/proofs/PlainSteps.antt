@@ -14,7 +14,7 @@ use Rattle.macm.specs.Check.{agrees}
 use Rattle.front.specs.declared.Claim.{Claim}
 use Rattle.front.specs.declared.Claim.the-variants.{Nothing, AtLeast, Long}
 use Rattle.front.specs.Claim.{claim}
-use Rattle.front.specs.Look.{Look, unsettled, gap, message, judged, lookBy, look}
+use Rattle.front.specs.Look.{judged, lookBy, look}
 use Rattle.front.proofs.Bounds.{ClaimFact, claim-fact}
 use Rattle.division.specs.declared.Next.{Next}
 use Rattle.division.specs.declared.Next.the-variants.{Refused, Message as Given, End}

@@ -10,7 +10,7 @@ use lib.ListN.{length, take, drop, replicate, length-append, length-drop, length
 use lib.Seq.{take-at, length-take-le}
 use Rattle.octets.specs.Parts.{over}
 use Rattle.division.specs.Division.{divide}
-use Rattle.promises.specs.Run.{Run, gave, asRun, count}
+use Rattle.promises.specs.Run.{gave, asRun, count}
 use Rattle.stream.specs.declared.State.{State}
 use Rattle.stream.specs.Scan.{Scan, got, stop, scan}
 use Rattle.stream.specs.Feed.{Fed, given, more, fed, feed, finish}

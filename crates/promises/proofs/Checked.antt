@@ -1,14 +1,14 @@
 -- A message of n bytes stands at the front exactly if they are here and the message check accepts them. Assumes nothing.
-use Prim.Native.Nat.{ℕ, suc, _+_, _≤_, _<_}
+use Prim.Native.Nat.{ℕ, suc, _≤_, _<_}
 use mathlib.Core.Path.{_≡_, refl, sym, ap, _∙_}
 use mathlib.Core.Bool.{Bool, true, false, cond}
-use mathlib.Core.List.{List, _++_}
+use mathlib.Core.List.{List}
 use native.Mathlib.Omega.{arith}
 use lib.ListN.{length, getD, take, drop, take-append-drop}
 use lib.Seq.{length-take-le, getD-take}
 use lib.Dec.{ltb, leb}
-use borrow.Author.Tests.{lt-ltb, le-leb, leb-true, ltb-true}
-use Rattle.octets.specs.Begins.{fit, isWhole, begins}
+use borrow.Author.Tests.{lt-ltb, le-leb, leb-true}
+use Rattle.octets.specs.Begins.{fit, isWhole}
 use Rattle.octets.specs.Numbers.{Bytes}
 use Rattle.octets.specs.declared.Fit.{Fit}
 use Rattle.octets.specs.declared.Fit.the-variants.{Whole, Part, Bad}
@@ -18,13 +18,13 @@ use Rattle.macm.specs.declared.Form.the-variants.{New, Old}
 use Rattle.macm.specs.declared.Verdict.{Verdict}
 use Rattle.macm.specs.declared.Verdict.the-variants.{Refused, Accepted}
 use Rattle.macm.specs.Form.{newSync, oldSync, countAt, size}
-use Rattle.macm.specs.Check.{formOf, agrees, verdict}
+use Rattle.macm.specs.Check.{agrees, verdict}
 use Rattle.macm.specs.Answers.{checkNumber}
 use Rattle.macm.proofs.CheckSteps.{Fine, fine, sound, five, is-new, is-old, is-neither}
 use Rattle.front.specs.declared.Claim.{Claim}
 use Rattle.front.specs.declared.Claim.the-variants.{Nothing, AtLeast, Long}
 use Rattle.front.specs.Claim.{cap, counted, claimBy, claim}
-use Rattle.front.specs.Look.{Look, unsettled, gap, message, judged, lookBy, look}
+use Rattle.front.specs.Look.{unsettled, gap, message, judged, lookBy, look}
 use Rattle.front.proofs.Settled.{keepFit, fit-append}
 use Rattle.front.proofs.Bounds.{FitFact, fit-fact, ClaimFact, claim-fact}
 

@@ -1,6 +1,6 @@
 -- finish-again: once the end is answered, finishing answers it again, the same each time, and changes nothing more. Assumes nothing.
 use Prim.Native.Nat.{ℕ, _+_, _-_, _≤_}
-use mathlib.Core.Path.{_≡_, refl, sym, ap, _∙_}
+use mathlib.Core.Path.{_≡_, ap}
 use mathlib.Core.Bool.{true}
 use mathlib.Core.List.{List, []}
 use native.Mathlib.Omega.{arith}
@@ -10,8 +10,8 @@ use borrow.Author.Tests.{le-ltb}
 use Rattle.stream.specs.declared.State.{State}
 use Rattle.stream.specs.declared.Answer.the-variants.{End}
 use Rattle.stream.specs.Scan.{Scan, got, stop, scan}
-use Rattle.stream.specs.Feed.{Fed, given, more, fed, finish}
-use Rattle.stream.specs.Reader.{room, limit, checked, Call, laid, finishedCall, finishBy, finishCall}
+use Rattle.stream.specs.Feed.{fed, finish}
+use Rattle.stream.specs.Reader.{room, limit, checked, Call, laid, finishedCall, finishCall}
 use Rattle.stream.specs.Steps.{Allowed}
 use Rattle.stream.proofs.ScanLaws.{ScanFact, scan-fact, StopsEmpty, scan-empty-at}
 use Rattle.stream.proofs.Cases.{finish-cases}

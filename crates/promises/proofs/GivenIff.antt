@@ -15,7 +15,7 @@ use Rattle.octets.specs.Parts.{part}
 use Rattle.macm.specs.Check.{verdict}
 use Rattle.macm.specs.Answers.{checkNumber}
 use Rattle.front.specs.Look.{Look, unsettled, gap, message, look}
-use Rattle.front.proofs.Bounds.{LookFact, look-fact}
+use Rattle.front.proofs.Bounds.{look-fact}
 use Rattle.division.specs.Division.{lengthOf, stands, divide}
 use Rattle.division.proofs.DivideSteps.{divide-nil, divide-gap, divide-message}
 use Rattle.promises.specs.Run.{Run, refused, unfinished, ended, gave, asRun}

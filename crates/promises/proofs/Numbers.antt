@@ -6,12 +6,10 @@ use mathlib.Core.Logic.{_⊎_, inl, inr, ⊎-elim}
 use mathlib.Core.List.{List, _++_}
 use native.Mathlib.Omega.{arith}
 use lib.ListN.{length, getD, take, drop, take-append-drop}
-use lib.Seq.{take-at}
 use lib.Dec.{ltb, leb, eqb}
 use borrow.Author.Tests.{ltb-true, ltb-false, leb-true, leb-false, eqb-true, eqb-false, le-ltb}
 use Rattle.octets.specs.Begins.{fit, begins}
 use Rattle.octets.specs.Parts.{part}
-use Rattle.refusal.specs.declared.Refusal.{Refusal}
 use Rattle.refusal.specs.declared.Refusal.the-variants.{NoObservation, NoRoom, OtherForm, PastEnd}
 use Rattle.refusal.proofs.Positive.{positive}
 use Rattle.macm.specs.declared.Form.{Form}
@@ -25,7 +23,7 @@ use Rattle.macm.specs.Check.{agrees, verdictAs, verdictBy, verdict}
 use Rattle.macm.specs.Answers.{checkNumber}
 use Rattle.macm.specs.Observation.{observationOf}
 use Rattle.macm.specs.Read.{headerOf, readAs, readBy, readOf}
-use Rattle.macm.proofs.CheckSteps.{five, is-new, is-old, is-neither, too-short, checked-by, wrong-length, accepts, wrong-checksum}
+use Rattle.macm.proofs.CheckSteps.{is-new, is-old, is-neither, too-short, checked-by, wrong-length, accepts, wrong-checksum}
 use Rattle.macm.proofs.Leads.{lead-of}
 use Rattle.compose.specs.declared.Written.the-variants.{Refused as NotWritten, Message}
 use Rattle.compose.specs.Answers.{writtenNumber}
@@ -40,7 +38,7 @@ use Rattle.stream.specs.Feed.{Fed, given, more, feed, finish}
 use Rattle.stream.specs.Reader.{feedCall, finishCall, fedCall, finishedCall}
 use Rattle.stream.specs.Steps.{Allowed}
 use Rattle.stream.proofs.Cases.{Small, Bad, finish-cases, feed-cases}
-use Rattle.promises.specs.Numbers.{readNumber, nextNumber, answerNumber, Differs, OfForm, CheckTable, AfterCheck, ReadTable, SetTable, Room, StartTable, ConvertTable, NextTable, Buffers, Sound, FinishTable, FeedTable}
+use Rattle.promises.specs.Numbers.{readNumber, nextNumber, answerNumber, Differs, OfForm, CheckTable, ReadTable, SetTable, Room, StartTable, ConvertTable, NextTable, Buffers, Sound, FinishTable, FeedTable}
 
 -- ---- the message check
 module _ (m : List ℕ) where

@@ -1,8 +1,8 @@
 -- Where an answer refuses, the bytes lent and the reader's state are those of the entry. Assumes nothing.
 use Prim.Native.Nat.{ℕ}
-use mathlib.Core.Path.{_≡_, refl, ap, _∙_}
+use mathlib.Core.Path.{_≡_, refl, ap}
 use mathlib.Core.Bool.{Bool, true, false, cond}
-use mathlib.Core.List.{List, []}
+use mathlib.Core.List.{List}
 use native.Mathlib.Omega.{arith}
 use lib.ListN.{length}
 use lib.Dec.{ltb, leb}
@@ -23,9 +23,9 @@ use Rattle.compose.specs.Start.{started, startOf, startBytes}
 use Rattle.compose.specs.Set.{withObservation, setBy, setOf, setBytesBy, setBytes}
 use Rattle.compose.specs.Convert.{allowed, converted, convertBy, convertOf, convertBytesBy, convertBytes}
 use Rattle.stream.specs.declared.State.{State}
-use Rattle.stream.specs.declared.Answer.the-variants.{Refused as NotFed, End}
+use Rattle.stream.specs.declared.Answer.the-variants.{Refused as NotFed}
 use Rattle.stream.specs.Feed.{Fed, given, more, feed, finish}
-use Rattle.stream.specs.Reader.{Call, refusal, fedCall, feedCall, finishedCall, finishCall}
+use Rattle.stream.specs.Reader.{refusal, fedCall, feedCall, finishedCall, finishCall}
 use Rattle.stream.proofs.Cases.{finish-cases, feed-cases}
 use Rattle.promises.specs.Numbers.{Refuses}
 

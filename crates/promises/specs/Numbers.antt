@@ -12,7 +12,6 @@ use Rattle.macm.specs.declared.Form.{Form}
 use Rattle.macm.specs.declared.Header.{Header}
 use Rattle.macm.specs.declared.Reading.{Reading}
 use Rattle.macm.specs.declared.Reading.the-variants.{Refused as NotRead, HeaderOnly, Observed}
-use Rattle.macm.specs.declared.Verdict.{Verdict}
 use Rattle.macm.specs.declared.Verdict.the-variants.{Accepted}
 use Rattle.macm.specs.Form.{newSync, oldSync, lead, countAt, size}
 use Rattle.macm.specs.Check.{verdict}

@@ -5,8 +5,8 @@ use mathlib.Core.Bool.{Bool, true, false}
 use mathlib.Core.List.{List, [], _∷_, _++_}
 use native.Mathlib.Omega.{arith}
 use lib.ListN.{length, drop}
-use Rattle.front.specs.Look.{Look, unsettled, gap, message, look, need}
-use Rattle.front.proofs.Settled.{keep, look-append}
+use Rattle.front.specs.Look.{Look, unsettled, gap, message, look}
+use Rattle.front.proofs.Settled.{look-append}
 use Rattle.front.proofs.Bounds.{LookFact, look-fact, most, need-most}
 use Rattle.division.proofs.DivideSteps.{look-nil}
 use Rattle.stream.specs.Scan.{settle, seen, Scan, got, stop, scanned, scan}
