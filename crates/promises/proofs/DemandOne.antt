@@ -27,9 +27,13 @@ use Rattle.owed.specs.Meets.{AsksNothing}
 use Rattle.promises.specs.Numbers.{readNumber, nextNumber, answerNumber, Refuses, CheckTable, ReadTable, SetTable, StartTable, ConvertTable, NextTable, FinishTable, FeedTable}
 use Rattle.promises.proofs.Numbers as numbers
 use Rattle.promises.proofs.Unchanged as unchanged
+use Rattle.octets.proofs as octets
+use Rattle.units.proofs as units
+use Rattle.refusal.proofs as refusals
 use Rattle.macm.proofs as macm
 use Rattle.compose.proofs as compose
 use Rattle.track.proofs as track
+use Rattle.front.proofs as front
 use Rattle.division.proofs as division
 use Rattle.stream.proofs as stream
 use Rattle.board.proofs as board
@@ -124,6 +128,37 @@ pub board-asks-nothing :
     × AsksNothing board.cs_plot_row.ended board.cs_plot_row.Reads.Asked
 board-asks-nothing =
     ((λ κs a. tt), (λ κs a. tt), (λ κs a. tt), (λ κs a. tt), (λ κs a. tt), (λ κs a. tt), (λ κs a. tt), (λ κs a. tt), (λ κs a. tt), (λ κs a. tt), (λ κs a. tt), (λ κs a. tt))
+
+-- and the parts that the entries are made of
+pub bytes-ask-nothing :
+    AsksNothing octets.checksum.ended octets.checksum.Reads.Asked
+    × AsksNothing octets.fits.ended octets.fits.Reads.Asked
+    × AsksNothing octets.starts.ended octets.starts.Reads.Asked
+    × AsksNothing octets.number_of.ended octets.number_of.Reads.Asked
+    × AsksNothing octets.put_number.ended octets.put_number.Reads.Asked
+    × AsksNothing octets.signed_of.ended octets.signed_of.Reads.Asked
+    × AsksNothing octets.raw_of.ended octets.raw_of.Reads.Asked
+    × AsksNothing octets.clear.ended octets.clear.Reads.Asked
+    × AsksNothing octets.copy.ended octets.copy.Reads.Asked
+bytes-ask-nothing = ((λ κs a. tt), (λ κs a. tt), (λ κs a. tt), (λ κs a. tt), (λ κs a. tt), (λ κs a. tt), (λ κs a. tt), (λ κs a. tt), (λ κs a. tt))
+
+pub units-ask-nothing :
+    AsksNothing units.LockCount.from_count.ended units.LockCount.from_count.Reads.Asked
+    × AsksNothing units.LockCount.count.ended units.LockCount.count.Reads.Asked
+    × AsksNothing units.Millis.from_number.ended units.Millis.from_number.Reads.Asked
+    × AsksNothing units.Millis.number.ended units.Millis.number.Reads.Asked
+    × AsksNothing units.since_lock.ended units.since_lock.Reads.Asked
+    × AsksNothing units.plus.ended units.plus.Reads.Asked
+units-ask-nothing = ((λ κs a. tt), (λ κs a. tt), (λ κs a. tt), (λ κs a. tt), (λ κs a. tt), (λ κs a. tt))
+
+pub parts-ask-nothing :
+    AsksNothing refusals.number.ended refusals.number.Reads.Asked
+    × AsksNothing macm.count_at.ended macm.count_at.Reads.Asked
+    × AsksNothing macm.size_of.ended macm.size_of.Reads.Asked
+    × AsksNothing macm.agreeing.ended macm.agreeing.Reads.Asked
+    × AsksNothing front.claims.ended front.claims.Reads.Asked
+    × AsksNothing division.walk.ended division.walk.Reads.Asked
+parts-ask-nothing = ((λ κs a. tt), (λ κs a. tt), (λ κs a. tt), (λ κs a. tt), (λ κs a. tt), (λ κs a. tt))
 
 -- the two over a lent state are walked by hand and so have no `Reads`: their `requires` is empty in every model of the logic
 pub cs-feed-asks-nothing : (w : World) (κs : Lfts 4) (a : Args board.cs_feed.signature κs) → board.cs_feed.clauses (w .𝓤) (w .H) (w .𝓖 .A) (w .𝓜 .mem) (w .𝓡 .run) κs a .requires tt ≡ emp (w .𝓤)

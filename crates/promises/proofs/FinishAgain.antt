@@ -7,11 +7,12 @@ use native.Mathlib.Omega.{arith}
 use lib.ListN.{length, take, replicate, length-replicate}
 use lib.Seq.{length-take-le}
 use borrow.Author.Tests.{le-ltb}
+use Rattle.refusal.specs.declared.Refusal.{Refusal}
 use Rattle.stream.specs.declared.State.{State}
-use Rattle.stream.specs.declared.Answer.the-variants.{End}
+use Rattle.stream.specs.declared.Answer.the-variants.{Refused, End}
 use Rattle.stream.specs.Scan.{Scan, got, stop, scan}
 use Rattle.stream.specs.Feed.{fed, finish}
-use Rattle.stream.specs.Reader.{room, limit, checked, Call, laid, finishedCall, finishCall}
+use Rattle.stream.specs.Reader.{room, limit, checked, Call, refusal, laid, finishedCall, refusal, finishCall}
 use Rattle.stream.specs.Steps.{Allowed}
 use Rattle.stream.proofs.ScanLaws.{ScanFact, scan-fact, StopsEmpty, scan-empty-at}
 use Rattle.stream.proofs.Cases.{finish-cases}
@@ -31,8 +32,13 @@ record Ended (c : Call) (s : State) (w o : List ℕ) (g : ℕ) : Type 0 where
 
 ended : (s : State) (w o : List ℕ) (g : ℕ) → finishCall s w o .answer ≡ End g → Ended (finishCall s w o) s w o g
 unfolding finish fed
-ended s w o g = finish-cases s w o (λ c. c .answer ≡ End g → Ended c s w o g) (λ b e. absurd (let z : _≡_ {A = ℕ} 0 1 = cc in omega arith)) (λ i j b e. absurd (let z : _≡_ {A = ℕ} 0 1 = cc in omega arith)) (λ a. stopped (scan true (take (s .held) w) (s .gap)) (scan-fact true (take (s .held) w) (s .gap)) (scan-empty-at (take (s .held) w) (s .gap)) a)
+ended s w o g =
+    finish-cases s w o (λ c. c .answer ≡ End g → Ended c s w o g) (λ b. apart _) (λ i j b. apart _)
+    (λ a. stopped (scan true (take (s .held) w) (s .gap)) (scan-fact true (take (s .held) w) (s .gap)) (scan-empty-at (take (s .held) w) (s .gap)) a)
   where
+    apart : (r : Refusal) → Refused r ≡ End g → Ended (refusal r s w o) s w o g
+    apart r e = absurd (let z : _≡_ {A = ℕ} 0 1 = cc in omega arith)
+
     stopped : (x : Scan) → ScanFact (take (s .held) w) (s .gap) x → StopsEmpty x → Allowed s (length w) (length o) 0
         → finishedCall s w o (fed [] x) .answer ≡ End g → Ended (finishedCall s w o (fed [] x)) s w o g
     stopped (got g′ n r) f m a e = absurd (let z : _≡_ {A = ℕ} 0 1 = cc in omega arith)

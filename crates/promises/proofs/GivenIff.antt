@@ -28,7 +28,11 @@ pub apart : (r : Run) (p q : ℕ) (m m′ : List ℕ) → Given r p m → Given 
 apart (refused r) p q m m′ h h′ l = absurd h
 apart unfinished p q m m′ h h′ l = absurd h
 apart (ended g) p q m m′ h h′ l = absurd h
-apart (gave g M r) p q m m′ h h′ l = ⊎-elim (λ a. ⊎-elim (λ b. absurd (omega (arith, a .0, b .0))) (λ b. absurd (omega (arith, a .0, b .0))) h′) (λ a. ⊎-elim (λ b. omega (arith, a .0, b .0, ap length (b .1))) (later (apart r (p - (g + length M)) (q - (g + length M)) m m′) a) h′) h
+apart (gave g M r) p q m m′ h h′ l =
+    ⊎-elim
+    (λ a. ⊎-elim (λ b. absurd (omega (arith, a .0, b .0))) (λ b. absurd (omega (arith, a .0, b .0))) h′)
+    (λ a. ⊎-elim (λ b. omega (arith, a .0, b .0, ap length (b .1))) (later (apart r (p - (g + length M)) (q - (g + length M)) m m′) a) h′)
+    h
   where
     later : (Given r (p - (g + length M)) m → Given r (q - (g + length M)) m′ → q - (g + length M) < p - (g + length M) → q - (g + length M) + length m′ ≤ p - (g + length M))
         → (g + length M ≤ p) × Given r (p - (g + length M)) m → (g + length M ≤ q) × Given r (q - (g + length M)) m′ → q + length m′ ≤ p
