@@ -21,8 +21,9 @@ use Rattle.promises.proofs.ReadWrite.{written-again}
 use Rattle.promises.proofs.WriteRead.{read-again}
 use Rattle.promises.proofs.OneByte.{changed-refused}
 
--- an accepted message, read and written again wherever there is room, gives the same bytes
-pub read-write : (m out : List ℕ) → Bytes m → checkNumber (verdict m) ≡ 0 → length m ≤ length out → write (headerIn (readOf m 0)) (observationsOf m) out ≡ made m
+-- an accepted message, read and written again wherever there is room, gives the same bytes; it has no more observations than start can be given
+pub read-write : (m out : List ℕ) → Bytes m → checkNumber (verdict m) ≡ 0 → length m ≤ length out
+    → (length (observationsOf m) ≤ 255) × (write (headerIn (readOf m 0)) (observationsOf m) out ≡ made m)
 read-write m out b accepted room = written-again m out b accepted room
 
 -- a header with up to 255 observations, of either form, written where there is room and read, gives the same fields
