@@ -7,7 +7,6 @@ use contract.Lifetimes.{Lfts}
 use base.Logic.{emp}
 use denote.Triple.Entry.{Args}
 use borrow.Fn.World.{World}
-use Rattle.refusal.specs.declared.Refusal.{Refusal}
 use Rattle.macm.specs.declared.Form.{Form}
 use Rattle.macm.specs.declared.Header.{Header}
 use Rattle.macm.specs.declared.Observation.{Observation}
@@ -21,10 +20,9 @@ use Rattle.compose.specs.Set.{setOf, setBytes}
 use Rattle.compose.specs.Convert.{convertOf, convertBytes}
 use Rattle.division.specs.Plain.{nextOf}
 use Rattle.stream.specs.declared.State.{State}
-use Rattle.stream.specs.declared.Answer.the-variants.{Refused}
-use Rattle.stream.specs.Reader.{refusal, feedCall, finishCall}
+use Rattle.stream.specs.Reader.{feedCall, finishCall}
 use Rattle.owed.specs.Meets.{AsksNothing}
-use Rattle.promises.specs.Numbers.{readNumber, nextNumber, answerNumber, Refuses, CheckTable, ReadTable, SetTable, StartTable, ConvertTable, NextTable, FinishTable, FeedTable}
+use Rattle.promises.specs.Numbers.{readNumber, nextNumber, answerNumber, Refuses, Unchanged, CheckTable, ReadTable, SetTable, StartTable, ConvertTable, NextTable, FinishTable, FeedTable}
 use Rattle.promises.proofs.Numbers as numbers
 use Rattle.promises.proofs.Unchanged as unchanged
 use Rattle.octets.proofs as octets
@@ -77,12 +75,12 @@ convert-refused g m out r = unchanged.convert-unchanged g m out r
 pub refused-hands-back-nothing : (w : Written) → Refuses w → writtenLength w ≡ 0
 refused-hands-back-nothing w r = unchanged.no-length w r
 
--- ---- nor the reader's state: `refusal r s w o` is the state, the window and the output of the entry
-pub feed-refused : (s : State) (p w o : List ℕ) (r : Refusal) → feedCall s p w o .answer ≡ Refused r → feedCall s p w o ≡ refusal r s w o
-feed-refused s p w o r e = unchanged.feed-unchanged s w o r p e
+-- ---- nor the reader's state, nor the window and the output lent to it
+pub feed-refused : (s : State) (p w o : List ℕ) → Unchanged s w o (feedCall s p w o)
+feed-refused s p w o = unchanged.feed-unchanged s w o p
 
-pub finish-refused : (s : State) (w o : List ℕ) (r : Refusal) → finishCall s w o .answer ≡ Refused r → finishCall s w o ≡ refusal r s w o
-finish-refused s w o r e = unchanged.finish-unchanged s w o r e
+pub finish-refused : (s : State) (w o : List ℕ) → Unchanged s w o (finishCall s w o)
+finish-refused s w o = unchanged.finish-unchanged s w o
 
 -- ---- it takes all inputs, so nobody has to check first: what an entry asks, which the checker makes of its `requires`, always holds
 pub reading-asks-nothing :

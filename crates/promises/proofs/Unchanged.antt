@@ -1,12 +1,10 @@
 -- Where an answer refuses, the bytes lent and the reader's state are those of the entry. Assumes nothing.
 use Prim.Native.Nat.{ℕ}
-use mathlib.Core.Path.{_≡_, refl, ap}
+use mathlib.Core.Path.{_≡_, refl}
 use mathlib.Core.Bool.{Bool, true, false, cond}
 use mathlib.Core.List.{List}
-use native.Mathlib.Omega.{arith}
 use lib.ListN.{length}
 use lib.Dec.{ltb, leb}
-use Rattle.refusal.specs.declared.Refusal.{Refusal}
 use Rattle.refusal.specs.declared.Refusal.the-variants.{NoObservation, NoRoom, OtherForm}
 use Rattle.octets.specs.Parts.{over}
 use Rattle.macm.specs.declared.Form.{Form}
@@ -23,11 +21,10 @@ use Rattle.compose.specs.Start.{started, startOf, startBytes}
 use Rattle.compose.specs.Set.{withObservation, setBy, setOf, setBytesBy, setBytes}
 use Rattle.compose.specs.Convert.{allowed, converted, convertBy, convertOf, convertBytesBy, convertBytes}
 use Rattle.stream.specs.declared.State.{State}
-use Rattle.stream.specs.declared.Answer.the-variants.{Refused as NotFed}
 use Rattle.stream.specs.Feed.{Fed, given, more, feed, finish}
-use Rattle.stream.specs.Reader.{refusal, fedCall, feedCall, finishedCall, finishCall}
+use Rattle.stream.specs.Reader.{fedCall, feedCall, finishedCall, finishCall}
 use Rattle.stream.proofs.Cases.{finish-cases, feed-cases}
-use Rattle.promises.specs.Numbers.{Refuses}
+use Rattle.promises.specs.Numbers.{Refuses, Unchanged}
 
 -- ---- writing
 pub start-unchanged : (h : Header) (n : ℕ) (out : List ℕ) → Refuses (startOf h n out) → startBytes h n out ≡ out
@@ -69,21 +66,23 @@ no-length (NotWritten r) h = refl
 no-length (Message n) h = absurd (h refl)
 
 -- ---- the stream reader
-module _ (s : State) (w o : List ℕ) (r : Refusal) where
-  same : (q : Refusal) → NotFed q ≡ NotFed r → refusal q s w o ≡ refusal r s w o
-  same q e = let z : q ≡ r = cc in ap (λ t. refusal t s w o) z
-
-  pub feed-unchanged : (p : List ℕ) → feedCall s p w o .answer ≡ NotFed r → feedCall s p w o ≡ refusal r s w o
-  feed-unchanged p =
-      feed-cases s w o (λ c. c .answer ≡ NotFed r → c ≡ refusal r s w o) (λ b. same _) (λ i j b. same _) p (λ a n. same _) (λ a z m. same _) (λ a z. go (feed _ _ p))
+module _ (s : State) (w o : List ℕ) where
+  pub feed-unchanged : (p : List ℕ) → Unchanged s w o (feedCall s p w o)
+  feed-unchanged p = feed-cases s w o (Unchanged s w o) (λ b h. same) (λ i j b h. same) p (λ a n h. same) (λ a z m h. same) (λ a z. go (feed _ _ p))
     where
-      go : (f : Fed) → fedCall s w o p f .answer ≡ NotFed r → fedCall s w o p f ≡ refusal r s w o
-      go (given g m h q) e = absurd (let z : _≡_ {A = ℕ} 0 1 = cc in omega arith)
-      go (more g h) e = absurd (let z : _≡_ {A = ℕ} 0 1 = cc in omega arith)
+      same : (s ≡ s) × (w ≡ w) × (o ≡ o)
+      same = (refl, refl, refl)
 
-  pub finish-unchanged : finishCall s w o .answer ≡ NotFed r → finishCall s w o ≡ refusal r s w o
-  finish-unchanged = finish-cases s w o (λ c. c .answer ≡ NotFed r → c ≡ refusal r s w o) (λ b. same _) (λ i j b. same _) (λ a. go (finish _ _))
+      go : (f : Fed) → Unchanged s w o (fedCall s w o p f)
+      go (given g m h q) r = absurd (r refl)
+      go (more g h) r = absurd (r refl)
+
+  pub finish-unchanged : Unchanged s w o (finishCall s w o)
+  finish-unchanged = finish-cases s w o (Unchanged s w o) (λ b h. same) (λ i j b h. same) (λ a. go (finish _ _))
     where
-      go : (f : Fed) → finishedCall s w o f .answer ≡ NotFed r → finishedCall s w o f ≡ refusal r s w o
-      go (given g m h q) e = absurd (let z : _≡_ {A = ℕ} 0 1 = cc in omega arith)
-      go (more g h) e = absurd (let z : _≡_ {A = ℕ} 0 1 = cc in omega arith)
+      same : (s ≡ s) × (w ≡ w) × (o ≡ o)
+      same = (refl, refl, refl)
+
+      go : (f : Fed) → Unchanged s w o (finishedCall s w o f)
+      go (given g m h q) r = absurd (r refl)
+      go (more g h) r = absurd (r refl)

@@ -24,6 +24,7 @@ use Rattle.division.specs.declared.Next.the-variants.{Refused as NotFound, Mess
 use Rattle.stream.specs.declared.State.{State}
 use Rattle.stream.specs.declared.Answer.{Answer}
 use Rattle.stream.specs.declared.Answer.the-variants.{Refused, NeedsMore, Message, End}
+use Rattle.stream.specs.Reader.{Call}
 
 -- ---- the number of an answer: 0 where it is no refusal
 abbrev pub readNumber : Reading → ℕ
@@ -45,6 +46,10 @@ answerNumber (End g) = 0
 -- a call of writing refuses where its number is not 0
 abbrev pub Refuses : Written → Type 0
 Refuses w = (writtenNumber w ≡ 0 → ⊥)
+
+-- a call of the stream reader whose number is not 0 leaves the state, the window and the output of its entry
+abbrev pub Unchanged : State → List ℕ → List ℕ → Call → Type 0
+Unchanged s w o c = (answerNumber (c .answer) ≡ 0 → ⊥) → (c .state ≡ s) × (c .window ≡ w) × (c .output ≡ o)
 
 -- ---- the message check: 1 fewer than 15 bytes; 2 the first four are neither sync string; 3 the number of bytes is not the one that form and N
 -- require; 4 the checksum differs
