@@ -1,14 +1,13 @@
 -- The division, a position at a time. Assumes nothing.
-use Prim.Native.Nat.{ℕ, zero, suc, _≤_, _<_}
+use Prim.Native.Nat.{ℕ, zero, suc, _<_}
 use mathlib.Core.Path.{_≡_, refl, ap}
 use mathlib.Core.List.{List, [], _∷_}
 use native.Mathlib.Omega.{arith}
-use lib.ListN.{length, take, drop}
+use lib.ListN.{take, drop}
 use Rattle.octets.specs.Begins.{fit}
 use Rattle.front.specs.Claim.{claimBy, claim}
-use Rattle.front.specs.Look.{Look, unsettled, gap, message, lookBy, look}
-use Rattle.front.proofs.Bounds.{LookFact, look-fact}
-use Rattle.division.specs.Division.{Division, last, part, lengthOf, stands, divided, divideFrom, divide}
+use Rattle.front.specs.Look.{unsettled, lookBy, look}
+use Rattle.division.specs.Division.{last, part, stands, divided, divideFrom, divide}
 
 skipped : (s : ℕ) (xs : List ℕ) (g : ℕ) → divideFrom s xs g ≡ divide (drop s xs) g
 unfolding divide divideFrom
@@ -32,16 +31,3 @@ divide-message x xs g (suc n) e l = rw e (ap (part g (take (suc n) (x ∷ xs))) 
 pub look-nil : look [] ≡ unsettled
 unfolding look lookBy claim claimBy fit
 look-nil = refl
-
-pub stands-nil : stands [] ≡ 0
-unfolding stands lengthOf
-stands-nil = rw look-nil
-
-pub stands-le : (xs : List ℕ) → stands xs ≤ length xs
-unfolding stands lengthOf
-stands-le xs = go (look xs) (look-fact xs)
-  where
-    go : (l : Look) → LookFact xs l → lengthOf l ≤ length xs
-    go unsettled h = omega arith
-    go gap h = omega arith
-    go (message n) h = h .1

@@ -1,7 +1,7 @@
 -- The division of a stream into gap bytes and given messages. Definitions only.
-use Prim.Native.Nat.{ℕ, zero, suc, _+_}
+use Prim.Native.Nat.{ℕ, zero, suc}
 use mathlib.Core.List.{List, [], _∷_}
-use lib.ListN.{length, take}
+use lib.ListN.{take}
 use Rattle.front.specs.Look.{Look, unsettled, gap, message, look}
 
 -- gap bytes and a message, again and again, and at last the gap bytes that are left
@@ -32,12 +32,3 @@ divideFrom zero (x ∷ xs) g = let skip = divideFrom zero xs (suc g) in divided 
 -- of a stream of which g gap bytes stand before
 unfoldable pub divide : List ℕ → ℕ → Division
 divide xs g = divideFrom 0 xs g
-
--- the messages given, and all the bytes
-abbrev pub count : Division → ℕ
-count (last g) = 0
-count (part g m d) = suc (count d)
-
-abbrev pub bytes : Division → ℕ
-bytes (last g) = g
-bytes (part g m d) = g + length m + bytes d

@@ -2,5 +2,4 @@ pub mod ClaimSteps
 pub mod Settled
 pub mod Bounds
 pub mod Waiting
-pub mod Checked
 pub mod Determined

@@ -1,45 +1,14 @@
--- The laws of a feed: it takes the fewest bytes that settle the next message, in bulk or one by one, and leaves the rest of the division.
--- Assumes nothing.
+-- The laws of a feed: it takes the fewest bytes that settle the next message, in bulk or one by one. Assumes nothing.
 use Prim.Native.Nat.{ℕ, zero, suc, _+_, _≤_, _<_}
-use mathlib.Core.Path.{_≡_, refl, sym, ap, _∙_}
+use mathlib.Core.Path.{_≡_, refl, ap, _∙_}
 use mathlib.Core.Bool.{Bool, true, false}
 use mathlib.Core.List.{List, [], _∷_, _++_, append-assoc, append-nil}
 use native.Mathlib.Omega.{arith}
 use lib.ListN.{length, take, drop, length-append}
 use Rattle.front.specs.Look.{unsettled, look}
-use Rattle.division.specs.Division.{Division, last, part, divide}
 use Rattle.stream.specs.Scan.{settle, seen, Scan, got, stop, scanned, scan}
-use Rattle.stream.specs.Feed.{Fed, given, more, fed, feed, finish}
-use Rattle.stream.proofs.ScanLaws.{left, scan-more, leftEnd, scan-end, onward, scan-append}
-
--- ---- a feed
-abbrev pub leftFed : Fed → List ℕ → Division
-leftFed (given g m h q) ys = part g m (divide (h ++ (q ++ ys)) 0)
-leftFed (more g h) ys = divide (h ++ ys) g
-
-fed-right : (p : List ℕ) (s : Scan) (ys : List ℕ) → left s (p ++ ys) ≡ leftFed (fed p s) ys
-unfolding fed
-fed-right [] (got g n r) ys = refl
-fed-right [] (stop g r) ys = refl
-fed-right (b ∷ p) (got g n r) ys = refl
-fed-right (b ∷ p) (stop g r) ys =
-    ap (λ (l : List ℕ). divide l g) (sym (append-assoc r (b ∷ []) (p ++ ys))) ∙ scan-more (r ++ (b ∷ [])) (p ++ ys) g ∙ fed-right p (scan false (r ++ (b ∷ [])) g) ys
-
-pub feed-right : (h p ys : List ℕ) (g : ℕ) → divide (h ++ (p ++ ys)) g ≡ leftFed (feed h g p) ys
-unfolding feed
-feed-right h p ys g = scan-more h (p ++ ys) g ∙ fed-right p (scan false h g) ys
-
-abbrev pub leftFinish : Fed → Division
-leftFinish (given g m h q) = part g m (divide h 0)
-leftFinish (more g h) = last g
-
-pub finish-right : (h : List ℕ) (g : ℕ) → divide h g ≡ leftFinish (finish h g)
-unfolding finish fed
-finish-right h g = scan-end h g ∙ go (scan true h g)
-  where
-    go : (s : Scan) → leftEnd s ≡ leftFinish (fed [] s)
-    go (got g n r) = refl
-    go (stop g r) = refl
+use Rattle.stream.specs.Feed.{Fed, given, more, fed, feed}
+use Rattle.stream.proofs.ScanLaws.{scan-append}
 
 -- ---- taking bytes in bulk: as many as the front position needs, at once
 abbrev pub Waits : List ℕ → ℕ → Type 0

@@ -1,11 +1,9 @@
 pub mod ScanLaws
 pub mod FeedLaws
-pub mod RunRight
 pub mod WalkScan
 pub mod Reach
 pub mod WindowSteps
 pub mod TurnSteps
 pub mod CallSteps
-pub mod AnyCut
-pub mod FinishAgain
 pub mod Determined
+pub mod Cases

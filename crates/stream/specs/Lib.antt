@@ -1,5 +1,4 @@
 pub mod Scan
 pub mod Feed
 pub mod Reader
-pub mod Calls
 pub mod Steps

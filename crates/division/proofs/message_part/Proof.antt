@@ -4,7 +4,7 @@ use mathlib.Core.Path.{_≡_, refl, sym, ap, _∙_}
 use native.Mathlib.Omega.{arith}
 use lib.ListN.{take, drop}
 use Rattle.division.specs.Plain.{placeOf, bytesIn}
-use Rattle.division.proofs.PlainSame.{given-within}
+use Rattle.division.proofs.PlainSteps.{given-within}
 use borrow.Author.Needs.{needs}
 use Rattle.division.proofs.message_part.Statement.{statement}
 use Rattle.division.proofs.message_part.Tie as tie

@@ -2,7 +2,7 @@
 use mathlib.Core.Path.{_∙_}
 use native.Mathlib.Omega.{arith}
 use lib.ListN.{length-drop}
-use Rattle.division.proofs.PlainSame.{next-past, next-given, next-end, ends-message, ends-unsettled}
+use Rattle.division.proofs.PlainSteps.{next-past, next-given, next-end, ends-message, ends-unsettled}
 use borrow.Author.Needs.{needs}
 use Rattle.division.proofs.next_message.Statement.{statement}
 use Rattle.division.proofs.next_message.Tie as tie

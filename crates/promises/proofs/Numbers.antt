@@ -1,0 +1,206 @@
+-- Each entry refuses by document 01's numbers: each number under its condition and no other, and 0 where none holds. Assumes nothing.
+use Prim.Native.Nat.{ℕ, _+_, _≤_, _<_}
+use mathlib.Core.Path.{_≡_, refl, sym, ap, _∙_}
+use mathlib.Core.Bool.{Bool, true, false, cond}
+use mathlib.Core.Logic.{_⊎_, inl, inr, ⊎-elim}
+use mathlib.Core.List.{List, _++_}
+use native.Mathlib.Omega.{arith}
+use lib.ListN.{length, getD, take, drop, take-append-drop}
+use lib.Dec.{ltb, leb, eqb}
+use borrow.Author.Tests.{ltb-true, ltb-false, leb-true, leb-false, eqb-true, eqb-false, le-ltb}
+use Rattle.octets.specs.Begins.{fit, begins}
+use Rattle.octets.specs.Parts.{part}
+use Rattle.refusal.specs.declared.Refusal.the-variants.{NoObservation, NoRoom, OtherForm, PastEnd}
+use Rattle.refusal.proofs.Positive.{positive}
+use Rattle.macm.specs.declared.Form.{Form}
+use Rattle.macm.specs.declared.Form.the-variants.{New, Old}
+use Rattle.macm.specs.declared.Header.{Header}
+use Rattle.macm.specs.declared.Reading.the-variants.{Refused as NotRead, HeaderOnly, Observed}
+use Rattle.macm.specs.declared.Verdict.{Verdict}
+use Rattle.macm.specs.declared.Verdict.the-variants.{Refused, Accepted}
+use Rattle.macm.specs.Form.{newSync, oldSync, lead, countAt, observationAt, size}
+use Rattle.macm.specs.Check.{agrees, verdictAs, verdictBy, verdict}
+use Rattle.macm.specs.Answers.{checkNumber}
+use Rattle.macm.specs.Observation.{observationOf}
+use Rattle.macm.specs.Read.{headerOf, readAs, readBy, readOf}
+use Rattle.macm.proofs.CheckSteps.{is-new, is-old, is-neither, too-short, checked-by, wrong-length, accepts, wrong-checksum}
+use Rattle.macm.proofs.Leads.{lead-of}
+use Rattle.compose.specs.declared.Written.the-variants.{Refused as NotWritten, Message}
+use Rattle.compose.specs.Answers.{writtenNumber}
+use Rattle.compose.specs.Start.{startOf}
+use Rattle.compose.specs.Set.{setBy, setOf}
+use Rattle.compose.specs.Convert.{allowed, convertBy, convertOf}
+use Rattle.division.specs.Division.{Division, last, part as onward, divide}
+use Rattle.division.specs.Plain.{firstOf, nextOf}
+use Rattle.division.specs.declared.Next.the-variants.{Refused as NotFound}
+use Rattle.stream.specs.declared.State.{State}
+use Rattle.stream.specs.Feed.{Fed, given, more, feed, finish}
+use Rattle.stream.specs.Reader.{feedCall, finishCall, fedCall, finishedCall}
+use Rattle.stream.specs.Steps.{Allowed}
+use Rattle.stream.proofs.Cases.{Small, Bad, finish-cases, feed-cases}
+use Rattle.promises.specs.Numbers.{readNumber, nextNumber, answerNumber, Differs, OfForm, CheckTable, ReadTable, SetTable, Room, StartTable, ConvertTable, NextTable, Buffers, Sound, FinishTable, FeedTable}
+
+-- ---- the message check
+module _ (m : List ℕ) where
+  -- a list that begins with a sync string, as the check sees it
+  begins-so : (t : List ℕ) → (begins t (t ++ drop 4 m) ≡ true) → take 4 m ≡ t → begins t m ≡ true
+  begins-so t w e = ap (begins t) (sym (take-append-drop 4 m) ∙ ap (λ s. s ++ drop 4 m) e) ∙ w
+
+  new-so : take 4 m ≡ newSync → begins newSync m ≡ true
+  unfolding fit
+  new-so e = begins-so newSync refl e
+
+  old-so : take 4 m ≡ oldSync → begins oldSync m ≡ true
+  unfolding fit
+  old-so e = begins-so oldSync refl e
+
+  checksum-differs : 15 ≤ length m → agrees m ≡ false → Differs m
+  unfolding agrees
+  checksum-differs l e = eqb-false _ _ (rw (le-ltb (length m) 5 (omega arith)) at e)
+
+  checksum-agrees : 15 ≤ length m → agrees m ≡ true → Differs m → ⊥
+  unfolding agrees
+  checksum-agrees l e d = d (eqb-true _ _ (rw (le-ltb (length m) 5 (omega arith)) at e))
+
+  of-form : (f : Form) → 15 ≤ length m → take 4 m ≡ take 4 (lead f) → verdict m ≡ verdictAs f m → OfForm f m (checkNumber (verdict m))
+  of-form f l sync e = (sync, go (eqb (length m) s) refl (agrees m) refl)
+    where
+      s : ℕ
+      s = size f (getD m (countAt f) 0)
+
+      go : (a : Bool) → eqb (length m) s ≡ a → (b : Bool) → agrees m ≡ b
+          → ((checkNumber (verdict m) ≡ 3) × (length m ≡ s → ⊥)) ⊎ ((length m ≡ s) × (((checkNumber (verdict m) ≡ 4) × Differs m) ⊎ ((checkNumber (verdict m) ≡ 0) × (Differs m → ⊥))))
+      go false p b q =
+          let n = eqb-false (length m) s p in
+          inl (ap checkNumber (e ∙ sym (wrong-length m f (countAt f) s refl refl n)), n)
+      go true p false q =
+          let n = eqb-true (length m) s p in
+          inr (n, inl (ap checkNumber (e ∙ sym (wrong-checksum m f (countAt f) s refl refl n q)), checksum-differs l q))
+      go true p true q =
+          let n = eqb-true (length m) s p in
+          inr (n, inr (ap checkNumber (e ∙ sym (accepts m f (countAt f) s refl refl n q)), checksum-agrees l q))
+
+  first-four : (f : Form) → 15 ≤ length m → m ≡ lead f ++ drop (countAt f) m → take 4 m ≡ take 4 (lead f)
+  first-four f l e = ap (take 4) e ∙ go f
+    where
+      go : (g : Form) → take 4 (lead g ++ drop (countAt f) m) ≡ take 4 (lead g)
+      go (New t q) = refl
+      go (Old v) = refl
+
+  pub check-table : CheckTable m (checkNumber (verdict m))
+  unfolding verdictBy
+  check-table = go (ltb (length m) 15) refl (begins newSync m) refl (begins oldSync m) refl
+    where
+      go : (a : Bool) → ltb (length m) 15 ≡ a → (b : Bool) → begins newSync m ≡ b → (c : Bool) → begins oldSync m ≡ c → CheckTable m (checkNumber (verdict m))
+      go true p b q c r = let l = ltb-true (length m) 15 p in inl (ap checkNumber (sym (too-short m l)), l)
+      go false p true q c r =
+          let l = ltb-false (length m) 15 p in
+          let k = sym (is-new m q) in
+          let f = New (getD m 4 0) (getD m 5 0) in
+          inr (l, inr (f, of-form f l (first-four f l (lead-of m f l k)) (sym (checked-by m _ l k))))
+      go false p false q true r =
+          let l = ltb-false (length m) 15 p in
+          let k = sym (is-old m q r) in
+          let f = Old (getD m 4 0) in
+          inr (l, inr (f, of-form f l (first-four f l (lead-of m f l k)) (sym (checked-by m _ l k))))
+      go false p false q false r =
+          let l = ltb-false (length m) 15 p in
+          inr (l, inl (ap checkNumber (sym (checked-by m _ l (sym (is-neither m q r)))), (λ e. not (sym (new-so e) ∙ q)), (λ e. not (sym (old-so e) ∙ r))))
+        where
+          not : true ≡ false → ⊥
+          not e = let z : _≡_ {A = ℕ} 0 1 = cc in omega arith
+
+-- ---- reading and writing
+pub read-table : (m : List ℕ) (j : ℕ) → ReadTable m j (readNumber (readOf m j))
+unfolding readOf readBy readAs
+read-table m j = go (verdict m) refl
+  where
+    go : (v : Verdict) → verdict m ≡ v → ReadTable m j (readNumber (readBy v m j))
+    go (Refused r) e = inl (ap checkNumber (sym e), positive r)
+    go (Accepted f k) e = inr (f, k, e, test (ltb j k) refl (eqb k 0) refl (eqb j 0) refl)
+      where
+        test : (a : Bool) → ltb j k ≡ a → (b : Bool) → eqb k 0 ≡ b → (c : Bool) → eqb j 0 ≡ c
+            → let i = readNumber (cond a (Observed (headerOf f m) k (observationOf (part (observationAt f j) 24 m))) (cond b (cond c (HeaderOnly (headerOf f m)) (NotRead NoObservation)) (NotRead NoObservation))) in
+            ((i ≡ 5) × (k ≤ j) × ((j ≡ 0) × (k ≡ 0) → ⊥)) ⊎ ((i ≡ 0) × ((j < k) ⊎ ((j ≡ 0) × (k ≡ 0))))
+        test true p b q c r = inr (refl, inl (ltb-true j k p))
+        test false p true q true r = inr (refl, inr (eqb-true j 0 r, eqb-true k 0 q))
+        test false p true q false r = inl (refl, ltb-false j k p, λ z. eqb-false j 0 r (z .0))
+        test false p false q c r = inl (refl, ltb-false j k p, λ z. eqb-false k 0 q (z .1))
+
+pub set-table : (m : List ℕ) (j : ℕ) → SetTable m j (writtenNumber (setOf m j))
+unfolding setOf setBy
+set-table m j = go (verdict m) refl
+  where
+    go : (v : Verdict) → verdict m ≡ v → SetTable m j (writtenNumber (setBy v m j))
+    go (Refused r) e = inl (ap checkNumber (sym e), positive r)
+    go (Accepted f k) e = inr (f, k, e, test (ltb j k) refl)
+      where
+        test : (a : Bool) → ltb j k ≡ a → let i = writtenNumber (cond a (Message (length m)) (NotWritten NoObservation)) in ((i ≡ 5) × (k ≤ j)) ⊎ ((i ≡ 0) × (j < k))
+        test true p = inr (refl, ltb-true j k p)
+        test false p = inl (refl, ltb-false j k p)
+
+room-table : (needed there : ℕ) → Room needed there (writtenNumber (cond (leb needed there) (Message needed) (NotWritten NoRoom)))
+room-table needed there = go (leb needed there) refl
+  where
+    go : (a : Bool) → leb needed there ≡ a → Room needed there (writtenNumber (cond a (Message needed) (NotWritten NoRoom)))
+    go true p = inr (refl, leb-true needed there p)
+    go false p = inl (refl, leb-false needed there p)
+
+pub start-table : (h : Header) (n : ℕ) (out : List ℕ) → StartTable h n out (writtenNumber (startOf h n out))
+unfolding startOf
+start-table h n out = room-table (size (h .form) n) (length out)
+
+pub convert-table : (g : Form) (m out : List ℕ) → ConvertTable g m out (writtenNumber (convertOf g m out))
+unfolding convertOf convertBy
+convert-table g m out = go (verdict m) refl
+  where
+    go : (v : Verdict) → verdict m ≡ v → ConvertTable g m out (writtenNumber (convertBy v g out))
+    go (Refused r) e = inl (ap checkNumber (sym e), positive r)
+    go (Accepted f k) e = inr (f, k, e, test (allowed f g) refl)
+      where
+        test : (a : Bool) → allowed f g ≡ a
+            → let i = writtenNumber (cond a (cond (leb (size g k) (length out)) (Message (size g k)) (NotWritten NoRoom)) (NotWritten OtherForm)) in
+            ((i ≡ 7) × (allowed f g ≡ false)) ⊎ ((allowed f g ≡ true) × Room (size g k) (length out) i)
+        test true p = inr (p, room-table (size g k) (length out))
+        test false p = inl (refl, p)
+
+-- ---- the plain reader
+pub next-table : (s : List ℕ) (start : ℕ) → NextTable s start (nextNumber (nextOf s start))
+unfolding nextOf
+next-table s start = go (ltb (length s) start) refl (divide (drop start s) 0)
+  where
+    go : (a : Bool) → ltb (length s) start ≡ a → (d : Division) → NextTable s start (nextNumber (cond a (NotFound PastEnd) (firstOf start d)))
+    go true p d = inl (refl, ltb-true (length s) start p)
+    go false p (last g) = inr (refl, ltb-false (length s) start p)
+    go false p (onward g m d) = inr (refl, ltb-false (length s) start p)
+
+-- ---- the stream reader
+module _ (s : State) (w o : List ℕ) where
+  small-buffers : Small (length w) (length o) → Buffers w o → ⊥
+  small-buffers b k = ⊎-elim (λ l. omega (arith, k .0)) (λ l. omega (arith, k .1)) b
+
+  bad-state : Bad s → Sound s → ⊥
+  bad-state b k = ⊎-elim (λ l. omega (arith, k .0)) (λ c. ⊎-elim (λ l. omega (arith, k .1)) (λ l. omega (arith, k .2)) c) b
+
+  sound-state : (p : ℕ) → Allowed s (length w) (length o) p → Buffers w o × Sound s
+  sound-state p a = ((a .window, a .output), (a .held, omega (arith, a .fits), a .sums))
+
+  pub finish-table : FinishTable s w o (answerNumber (finishCall s w o .answer))
+  finish-table =
+      finish-cases s w o (λ c. FinishTable s w o (answerNumber (c .answer))) (λ b. inl (refl, small-buffers b)) (λ i j b. inr ((i, j), inl (refl, bad-state b)))
+      (λ a. let k = sound-state 0 a in inr (k .0, inr (k .1, go (finish _ _))))
+    where
+      go : (f : Fed) → answerNumber (finishedCall s w o f .answer) ≡ 0
+      go (given g m h q) = refl
+      go (more g h) = refl
+
+  pub feed-table : (p : List ℕ) → FeedTable s p w o (answerNumber (feedCall s p w o .answer))
+  feed-table p =
+      feed-cases s w o (λ c. FeedTable s p w o (answerNumber (c .answer))) (λ b. inl (refl, small-buffers b)) (λ i j b. inr ((i, j), inl (refl, bad-state b))) p
+      (λ a n. let k = sound-state 0 a in inr (k .0, inr (k .1, inl (refl, n))))
+      (λ a z l. let k = sound-state 0 a in inr (k .0, inr (k .1, inr (z, inl (refl, l)))))
+      (λ a z. let k = sound-state (length p) a in inr (k .0, inr (k .1, inr (z, inr (go (feed _ _ p), a .fits)))))
+    where
+      go : (f : Fed) → answerNumber (fedCall s w o p f .answer) ≡ 0
+      go (given g m h q) = refl
+      go (more g h) = refl

@@ -1,0 +1,37 @@
+-- A run of calls over the pieces of a stream, as a host makes them. Definitions only.
+use Prim.Native.Nat.{ℕ, zero, suc}
+use mathlib.Core.List.{List, [], _∷_}
+use lib.ListN.{take, drop}
+use Rattle.promises.specs.Run.{Run, refused, unfinished, ended, gave}
+use Rattle.stream.specs.declared.State.{State}
+use Rattle.stream.specs.declared.Answer.{Answer}
+use Rattle.stream.specs.declared.Answer.the-variants.{Refused, NeedsMore, Message, End}
+use Rattle.stream.specs.Reader.{Call, feedCall, finishCall}
+
+-- the untaken rest of a piece is offered again; an empty rest is not
+unfoldable pub offer : List ℕ → List (List ℕ) → List (List ℕ)
+offer [] ps = ps
+offer (b ∷ p) ps = (b ∷ p) ∷ ps
+
+-- a host goes on from the state and the window that the call before left, with the pieces to come
+abbrev pub Host : Type 0
+Host = State → List ℕ → List (List ℕ) → Run
+
+unfoldable pub afterFeed : Host → List ℕ → List (List ℕ) → Answer → Call → Run
+afterFeed go p ps (Refused r) c = refused r
+afterFeed go p ps NeedsMore c = go (c .state) (c .window) ps
+afterFeed go p ps (Message n g t) c = gave g (take n (c .output)) (go (c .state) (c .window) (offer (drop t p) ps))
+afterFeed go p ps (End g) c = unfinished
+
+unfoldable pub afterFinish : Host → Answer → Call → Run
+afterFinish go (Refused r) c = refused r
+afterFinish go NeedsMore c = unfinished
+afterFinish go (Message n g t) c = gave g (take n (c .output)) (go (c .state) (c .window) [])
+afterFinish go (End g) c = ended g
+
+-- at most so many calls: the pieces in order, the rest of each again, then finishing until the end is answered. Each call is lent an output of its own:
+-- somebody else may touch it between calls
+unfoldable pub calls : ℕ → (ℕ → List ℕ) → Host
+calls zero outputs s w ps = unfinished
+calls (suc n) outputs s w [] = let c = finishCall s w (outputs n) in afterFinish (calls n outputs) (c .answer) c
+calls (suc n) outputs s w (p ∷ ps) = let c = feedCall s p w (outputs n) in afterFeed (calls n outputs) p ps (c .answer) c

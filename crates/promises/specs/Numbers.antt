@@ -1,0 +1,113 @@
+-- Document 01's numbers, each with the condition under which an entry gives it, in the order of the tests. Definitions only.
+use Prim.Native.Nat.{ℕ, _+_, _-_, _^_, _≤_, _<_}
+use mathlib.Core.Path.{_≡_}
+use mathlib.Core.Bool.{true, false}
+use mathlib.Core.Logic.{_⊎_}
+use mathlib.Core.List.{List}
+use lib.ListN.{length, getD, take}
+use Rattle.octets.specs.Checksum.{checksumOf}
+use Rattle.octets.specs.Parts.{part}
+use Rattle.refusal.specs.Numbers.{numberOf}
+use Rattle.macm.specs.declared.Form.{Form}
+use Rattle.macm.specs.declared.Header.{Header}
+use Rattle.macm.specs.declared.Reading.{Reading}
+use Rattle.macm.specs.declared.Reading.the-variants.{Refused as NotRead, HeaderOnly, Observed}
+use Rattle.macm.specs.declared.Verdict.the-variants.{Accepted}
+use Rattle.macm.specs.Form.{newSync, oldSync, lead, countAt, size}
+use Rattle.macm.specs.Check.{verdict}
+use Rattle.macm.specs.Answers.{checkNumber}
+use Rattle.compose.specs.declared.Written.{Written}
+use Rattle.compose.specs.Answers.{writtenNumber}
+use Rattle.compose.specs.Convert.{allowed}
+use Rattle.division.specs.declared.Next.{Next}
+use Rattle.division.specs.declared.Next.the-variants.{Refused as NotFound, Message as Found, End as NoneLeft}
+use Rattle.stream.specs.declared.State.{State}
+use Rattle.stream.specs.declared.Answer.{Answer}
+use Rattle.stream.specs.declared.Answer.the-variants.{Refused, NeedsMore, Message, End}
+use Rattle.stream.specs.Reader.{Call}
+
+-- ---- the number of an answer: 0 where it is no refusal
+abbrev pub readNumber : Reading → ℕ
+readNumber (NotRead r) = numberOf r
+readNumber (HeaderOnly h) = 0
+readNumber (Observed h n o) = 0
+
+abbrev pub nextNumber : Next → ℕ
+nextNumber (NotFound r) = numberOf r
+nextNumber (Found p n g) = 0
+nextNumber (NoneLeft g) = 0
+
+abbrev pub answerNumber : Answer → ℕ
+answerNumber (Refused r) = numberOf r
+answerNumber NeedsMore = 0
+answerNumber (Message n g t) = 0
+answerNumber (End g) = 0
+
+-- a call of writing refuses where its number is not 0
+abbrev pub Refuses : Written → Type 0
+Refuses w = (writtenNumber w ≡ 0 → ⊥)
+
+-- a call of the stream reader whose number is not 0 leaves the state, the window and the output of its entry
+abbrev pub Unchanged : State → List ℕ → List ℕ → Call → Type 0
+Unchanged s w o c = (answerNumber (c .answer) ≡ 0 → ⊥) → (c .state ≡ s) × (c .window ≡ w) × (c .output ≡ o)
+
+-- ---- the message check: 1 fewer than 15 bytes; 2 the first four are neither sync string; 3 the number of bytes is not the one that form and N
+-- require; 4 the checksum differs
+abbrev pub Differs : List ℕ → Type 0
+Differs m = (checksumOf (part 4 (length m - 5) m) ≡ getD m (length m - 1) 0 → ⊥)
+
+abbrev pub OfForm : Form → List ℕ → ℕ → Type 0
+OfForm f m n =
+    (take 4 m ≡ take 4 (lead f))
+    × (((n ≡ 3) × (length m ≡ size f (getD m (countAt f) 0) → ⊥))
+    ⊎ ((length m ≡ size f (getD m (countAt f) 0)) × (((n ≡ 4) × Differs m) ⊎ ((n ≡ 0) × (Differs m → ⊥)))))
+
+abbrev pub CheckTable : List ℕ → ℕ → Type 0
+CheckTable m n =
+    ((n ≡ 1) × (length m < 15))
+    ⊎ ((15 ≤ length m) × (((n ≡ 2) × (take 4 m ≡ newSync → ⊥) × (take 4 m ≡ oldSync → ⊥)) ⊎ ((f : Form) × OfForm f m n)))
+
+-- 1 to 4 as the check says; of an accepted message what follows
+abbrev pub AfterCheck : (Form → ℕ → ℕ → Type 0) → List ℕ → ℕ → Type 0
+AfterCheck T m n = ((n ≡ checkNumber (verdict m)) × (0 < n)) ⊎ ((f : Form) × (k : ℕ) × (verdict m ≡ Accepted f k) × T f k n)
+
+-- 5 the index is N or more, save reading at index 0 with N = 0
+abbrev pub ReadTable : List ℕ → ℕ → ℕ → Type 0
+ReadTable m j n = AfterCheck (λ f k i. ((i ≡ 5) × (k ≤ j) × ((j ≡ 0) × (k ≡ 0) → ⊥)) ⊎ ((i ≡ 0) × ((j < k) ⊎ ((j ≡ 0) × (k ≡ 0))))) m n
+
+abbrev pub SetTable : List ℕ → ℕ → ℕ → Type 0
+SetTable m j n = AfterCheck (λ f k i. ((i ≡ 5) × (k ≤ j)) ⊎ ((i ≡ 0) × (j < k))) m n
+
+-- 6 the output has fewer bytes than the message needs
+abbrev pub Room : ℕ → ℕ → ℕ → Type 0
+Room needed there n = ((n ≡ 6) × (there < needed)) ⊎ ((n ≡ 0) × (needed ≤ there))
+
+abbrev pub StartTable : Header → ℕ → List ℕ → ℕ → Type 0
+StartTable h k out n = Room (size (h .form) k) (length out) n
+
+-- 7, before 6: the message is not of the form converted from, or, to the old form, TYPE is not 0
+abbrev pub ConvertTable : Form → List ℕ → List ℕ → ℕ → Type 0
+ConvertTable g m out n = AfterCheck (λ f k i. ((i ≡ 7) × (allowed f g ≡ false)) ⊎ ((allowed f g ≡ true) × Room (size g k) (length out) i)) m n
+
+-- 12 the start is past the end of the slice
+abbrev pub NextTable : List ℕ → ℕ → ℕ → Type 0
+NextTable s start n = ((n ≡ 12) × (length s < start)) ⊎ ((n ≡ 0) × (start ≤ length s))
+
+-- 8 window or output has fewer than 6,136 bytes; 9 a held count above 6,136, a total above 2^48, or gap + held above total
+abbrev pub Buffers : List ℕ → List ℕ → Type 0
+Buffers w o = (6136 ≤ length w) × (6136 ≤ length o)
+
+abbrev pub Sound : State → Type 0
+Sound s = (s .held ≤ 6136) × (s .total ≤ 2 ^ 48) × (s .gap + s .held ≤ s .total)
+
+-- then what follows
+abbrev pub AfterState : (ℕ → Type 0) → State → List ℕ → List ℕ → ℕ → Type 0
+AfterState T s w o n = ((n ≡ 8) × (Buffers w o → ⊥)) ⊎ (Buffers w o × (((n ≡ 9) × (Sound s → ⊥)) ⊎ (Sound s × T n)))
+
+abbrev pub FinishTable : State → List ℕ → List ℕ → ℕ → Type 0
+FinishTable s w o n = AfterState (λ i. i ≡ 0) s w o n
+
+-- 10 feed after the end was announced; 11 total + length of the offered piece is above 2^48
+abbrev pub FeedTable : State → List ℕ → List ℕ → List ℕ → ℕ → Type 0
+FeedTable s p w o n =
+    AfterState (λ i. ((i ≡ 10) × (s .ended ≡ 0 → ⊥)) ⊎ ((s .ended ≡ 0) × (((i ≡ 11) × (2 ^ 48 < s .total + length p)) ⊎ ((i ≡ 0) × (s .total + length p ≤ 2 ^ 48))))) s w o n

@@ -1,0 +1,60 @@
+-- A call by cases: each refusal under document 01's condition for it and no earlier one, or what the call goes on to. Assumes nothing.
+use Prim.Native.Nat.{ℕ, _+_, _≤_, _<_}
+use mathlib.Core.Path.{_≡_, refl}
+use mathlib.Core.Bool.{Bool, true, false, cond}
+use mathlib.Core.Logic.{_⊎_, inl, inr}
+use mathlib.Core.List.{List}
+use native.Mathlib.Omega.{arith}
+use lib.ListN.{length, take}
+use lib.Dec.{ltb, eqb}
+use borrow.Author.Tests.{ltb-true, ltb-false, eqb-true, eqb-false}
+use Rattle.refusal.specs.declared.Refusal.the-variants.{SmallBuffer, BadState, Ended, TooMuch}
+use Rattle.stream.specs.declared.State.{State}
+use Rattle.stream.specs.declared.Gate.{Gate}
+use Rattle.stream.specs.declared.Gate.the-variants.{Refused as Shut, Open}
+use Rattle.stream.specs.Feed.{feed, finish}
+use Rattle.stream.specs.Reader.{room, limit, checked, feedCheckedBy, feedChecked, Call, refusal, fedCall, feedBy, feedCall, finishedCall, finishBy, finishCall}
+use Rattle.stream.specs.Steps.{Allowed}
+
+-- a window or an output that is too small; a state that no run leaves
+abbrev pub Small : ℕ → ℕ → Type 0
+Small w o = (w < room) ⊎ (o < room)
+
+abbrev pub Bad : State → Type 0
+Bad s = (room < s .held) ⊎ ((limit < s .total) ⊎ (s .total < s .gap + s .held))
+
+module _ (s : State) (w o : ℕ) (P : Gate → Type 0) (small : Small w o → P (Shut SmallBuffer)) (bad : room ≤ w → room ≤ o → Bad s → P (Shut BadState)) (opens : Allowed s w o 0 → P Open) where
+  checked-cases : P (checked s w o)
+  unfolding checked
+  checked-cases =
+      go (ltb w room) refl (ltb o room) refl (ltb room (s .held)) refl (ltb limit (s .total)) refl (ltb (s .total) (s .gap + s .held)) refl
+    where
+      go : (a : Bool) → ltb w room ≡ a → (b : Bool) → ltb o room ≡ b → (c : Bool) → ltb room (s .held) ≡ c → (d : Bool) → ltb limit (s .total) ≡ d
+          → (e : Bool) → ltb (s .total) (s .gap + s .held) ≡ e
+          → P (cond a (Shut SmallBuffer) (cond b (Shut SmallBuffer) (cond c (Shut BadState) (cond d (Shut BadState) (cond e (Shut BadState) Open)))))
+      go true h b i c j d k e l = small (inl (ltb-true w room h))
+      go false h true i c j d k e l = small (inr (ltb-true o room i))
+      go false h false i true j d k e l = bad (ltb-false w room h) (ltb-false o room i) (inl (ltb-true room (s .held) j))
+      go false h false i false j true k e l = bad (ltb-false w room h) (ltb-false o room i) (inr (inl (ltb-true limit (s .total) k)))
+      go false h false i false j false k true l = bad (ltb-false w room h) (ltb-false o room i) (inr (inr (ltb-true (s .total) (s .gap + s .held) l)))
+      go false h false i false j false k false l =
+          opens (record { window = ltb-false w room h; output = ltb-false o room i; held = ltb-false room (s .held) j; sums = ltb-false (s .total) (s .gap + s .held) l; fits = omega (arith, ltb-false limit (s .total) k) })
+
+module _ (s : State) (w o : List ℕ) (P : Call → Type 0) (small : Small (length w) (length o) → P (refusal SmallBuffer s w o)) (bad : room ≤ length w → room ≤ length o → Bad s → P (refusal BadState s w o)) where
+  pub finish-cases : (Allowed s (length w) (length o) 0 → P (finishedCall s w o (finish (take (s .held) w) (s .gap)))) → P (finishCall s w o)
+  unfolding finishCall
+  finish-cases goes = checked-cases s (length w) (length o) (λ g. P (finishBy g s w o)) small bad goes
+
+  pub feed-cases : (p : List ℕ) → (Allowed s (length w) (length o) 0 → (s .ended ≡ 0 → ⊥) → P (refusal Ended s w o)) → (Allowed s (length w) (length o) 0 → s .ended ≡ 0 → limit < s .total + length p → P (refusal TooMuch s w o))
+      → (Allowed s (length w) (length o) (length p) → s .ended ≡ 0 → P (fedCall s w o p (feed (take (s .held) w) (s .gap) p))) → P (feedCall s p w o)
+  unfolding feedCall feedChecked feedCheckedBy
+  feed-cases p ended much goes = checked-cases s (length w) (length o) (λ g. P (feedBy (feedCheckedBy g s (length p)) s p w o)) small bad on
+    where
+      on : Allowed s (length w) (length o) 0 → P (feedBy (feedCheckedBy Open s (length p)) s p w o)
+      on a = test (eqb (s .ended) 0) refl (ltb limit (s .total + length p)) refl
+        where
+          test : (b : Bool) → eqb (s .ended) 0 ≡ b → (c : Bool) → ltb limit (s .total + length p) ≡ c → P (feedBy (cond b (cond c (Shut TooMuch) Open) (Shut Ended)) s p w o)
+          test false h c i = ended a (eqb-false (s .ended) 0 h)
+          test true h true i = much a (eqb-true (s .ended) 0 h) (ltb-true limit (s .total + length p) i)
+          test true h false i =
+              goes (record { window = a .window; output = a .output; held = a .held; sums = a .sums; fits = ltb-false limit (s .total + length p) i }) (eqb-true (s .ended) 0 h)
