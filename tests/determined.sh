@@ -1,6 +1,7 @@
 #!/bin/sh
 # Every public function of a library has its theorem NAME-determined in its own crate's proofs/Determined.antt, stated of that function's own contract,
-# or, for an entry over a lent struct, of the claim NAME-learnt that is read off its own clauses there; or a line `CRATE::NAME: why` under the exceptions of docs/PROMISES.md. This reads text only: that the theorems hold is rt's to say.
+# or, for an entry over a lent struct, of the claim NAME-learnt that is read off its own clauses there; or a line `CRATE::NAME: why` under the exceptions
+# of docs/PROMISES.md. And docs/PROMISES.md names it in its crate's row. This reads text only: that the theorems hold is rt's to say.
 set -u
 root=$(cd "$(dirname "$0")/.." && pwd -P)
 cd "$root" || exit 2
@@ -20,8 +21,12 @@ for crate in $(sed 's/#.*//; s/:.*//' crates.txt); do
             echo "determined: $crate::$name has no theorem $law and no exception"
             failed=1
         fi
+        if ! grep -Eq "^\| \`$crate\` \|.*(\`|::)$name\`" docs/PROMISES.md; then
+            echo "determined: docs/PROMISES.md does not name $crate::$name"
+            failed=1
+        fi
     done
 done
 [ "$found" -gt 0 ] || failed=1
-echo "determined: $found public functions, each with its theorem"
+echo "determined: $found public functions, each with its theorem and its place in docs/PROMISES.md"
 exit $failed
