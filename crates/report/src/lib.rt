@@ -1,25 +1,78 @@
-// What the programs share: a recording comes in on standard input in large blocks, goes through the stream reader, and its lines go out in large
-// blocks. What a line says is proved in `lines`; what a program prints is held to stored output.
+// What the programs share: a recording comes in on standard input in large blocks, is divided where it stands in the buffer, and its lines go out in
+// large blocks. What a line says is proved in `lines`, that blocks divided so give the division of the recording in `promises`; what a program prints is
+// held to stored output.
+use division::Walked;
 use libc::STDIN_FILENO;
 use libc::STDOUT_FILENO;
 use std::num::wrapping_add_u64;
-use stream::Answer;
-use stream::Reply;
-use stream::State;
+use std::num::wrapping_add_usize;
 ghost use mathlib.Core.Path.{_≡_};
 
-// How far the recording is printed: whether as rows, the reader's state, the position behind the last message, the messages, the gap bytes, the bytes
-// of text that wait to be written, the part of the block that is yet to be fed, and whether there is more to do.
+// How far the recording is printed: whether as rows; the messages, the gap bytes and all bytes so far; where the bytes of the buffer that are yet to be
+// divided begin and end; whether no more will come; the bytes of text that wait to be written; and whether there is more to do.
 struct Progress {
     rows: bool,
-    state: State,
-    position: u64,
     messages: u64,
     gap: u64,
-    waiting: usize,
+    position: u64,
     from: usize,
     end: usize,
+    over: bool,
+    waiting: usize,
     going: bool,
+}
+
+// ---- the recording in
+
+// The bytes from one place up to another.
+fn part(bytes: &[u8], from: usize, end: usize) -> &[u8] {
+    if end <= bytes.len() {
+        if from <= end {
+            return &bytes[from..end];
+        }
+    }
+    &bytes[..0]
+}
+
+// The bytes from one place up to another, moved to the front: how many.
+fn keep(buffer: &mut [u8], from: usize, end: usize) -> usize {
+    if buffer.len() < end {
+        return 0;
+    }
+    if end < from {
+        return 0;
+    }
+    let count = end - from;
+    let mut i = 0;
+    while i < count {
+        buffer[i] = buffer[from + i];
+        i += 1;
+    }
+    count
+}
+
+// Reads a block behind those that were kept: 0 bytes at the end of the input, and where reading fails, which is said.
+fn read_behind(buffer: &mut [u8], kept: usize) -> usize {
+    if buffer.len() < kept {
+        return 0;
+    }
+    let room = &mut buffer[kept..];
+    let got = libc::read(STDIN_FILENO, room);
+    if got < 0 {
+        os::fail(b"standard input");
+    }
+    io::count(got, room)
+}
+
+fn read_on(progress: Progress, buffer: &mut [u8]) -> Progress {
+    let kept = keep(buffer, progress.from, progress.end);
+    let got = read_behind(buffer, kept);
+    Progress {
+        from: 0,
+        end: wrapping_add_usize(kept, got),
+        over: got == 0,
+        ..progress
+    }
 }
 
 // ---- text out
@@ -34,149 +87,109 @@ fn write_out(text: &[u8], waiting: usize) -> bool {
 }
 
 // A line for the message, or a row for each of its observations.
-fn put_message(progress: Progress, position: u64, message: &[u8], text: &mut [u8]) -> usize {
+fn put_message(progress: Progress, message: &[u8], text: &mut [u8]) -> usize {
     if progress.rows {
-        return lines::put_rows(text, progress.waiting, position, message);
+        return lines::put_rows(text, progress.waiting, progress.position, message);
     }
-    lines::put_line(text, progress.waiting, position, message)
+    lines::put_line(text, progress.waiting, progress.position, message)
 }
 
 // The last line of the listing; rows have none.
 fn put_last(progress: Progress, text: &mut [u8]) -> usize {
-    let state = progress.state;
     if progress.rows {
         return progress.waiting;
     }
     lines::put_end(
         text,
         progress.waiting,
-        state.total,
+        progress.position,
         progress.messages,
         progress.gap,
     )
 }
 
-// ---- the recording in
+// ---- the division
 
-// Another block: of no bytes at the end of the input, and where reading fails, which is said.
-fn read_on(progress: Progress, block: &mut [u8]) -> Progress {
-    let got = libc::read(STDIN_FILENO, block);
-    if got < 0 {
-        os::fail(b"standard input");
-    }
+// So many gap bytes.
+fn passed(progress: Progress, count: usize) -> Progress {
     Progress {
-        from: 0,
-        end: io::count(got, block),
+        gap: wrapping_add_u64(progress.gap, count as u64),
+        position: wrapping_add_u64(progress.position, count as u64),
+        from: wrapping_add_usize(progress.from, count),
         ..progress
     }
 }
 
-// The bytes of the block from one place up to another.
-fn part(block: &[u8], from: usize, end: usize) -> &[u8] {
-    if end <= block.len() {
-        if from <= end {
-            return &block[from..end];
-        }
-    }
-    &block[..0]
-}
-
-// A call of the reader, which is finished once a block has no bytes.
-fn call(progress: Progress, block: &[u8], window: &mut [u8], output: &mut [u8]) -> Reply {
-    let state = progress.state;
-    if progress.end == 0 {
-        return stream::finish(state, window, output);
-    }
-    stream::feed(
-        state,
-        part(block, progress.from, progress.end),
-        window,
-        output,
-    )
-}
-
-// ---- a call's answer
-
 // A message. What waits is written out where it is much, so that a message's text always has room behind it: of 255 rows none takes 250 bytes.
-fn given(progress: Progress, gap: u64, message: &[u8], taken: u64, text: &mut [u8]) -> Progress {
-    let position = wrapping_add_u64(progress.position, gap);
-    let waiting = put_message(progress, position, message, text);
+fn given(progress: Progress, message: &[u8], text: &mut [u8]) -> Progress {
+    let waiting = put_message(progress, message, text);
     let much = waiting > 65536;
     Progress {
-        position: wrapping_add_u64(position, message.len() as u64),
         messages: wrapping_add_u64(progress.messages, 1),
-        gap: wrapping_add_u64(progress.gap, gap),
+        position: wrapping_add_u64(progress.position, message.len() as u64),
+        from: wrapping_add_usize(progress.from, message.len()),
         waiting: if much { 0 } else { waiting },
-        from: wrapping_add_u64(progress.from as u64, taken) as usize,
         going: if much { write_out(text, waiting) } else { true },
         ..progress
     }
 }
 
 // The end: the last line, and all that waits.
-fn ended(progress: Progress, gap: u64, text: &mut [u8]) -> Progress {
-    let last = Progress {
-        gap: wrapping_add_u64(progress.gap, gap),
+fn ended(progress: Progress, text: &mut [u8]) -> Progress {
+    let all = put_last(progress, text);
+    write_out(text, all);
+    Progress {
         going: false,
         ..progress
-    };
-    let all = put_last(last, text);
-    write_out(text, all);
-    last
-}
-
-fn turn(
-    progress: Progress,
-    block: &mut [u8],
-    window: &mut [u8],
-    output: &mut [u8],
-    text: &mut [u8],
-) -> Progress {
-    let reply = call(progress, block, window, output);
-    let answer = reply.answer;
-    let state = reply.state;
-    let next = Progress { state, ..progress };
-    match answer {
-        Answer::Message { length, gap, taken } => {
-            given(next, gap, text::front(output, length as usize), taken, text)
-        }
-        Answer::NeedsMore => read_on(next, block),
-        Answer::End { gap } => ended(next, gap, text),
-        Answer::Refused(_) => ended(next, 0, text),
     }
 }
 
-// Calls the reader until there is no more to do. An input has an end, though nothing says so: the turns are counted down from a number that no run uses up.
-fn run(start: Progress, block: &mut [u8], window: &mut [u8], output: &mut [u8], text: &mut [u8]) {
-    let mut progress = read_on(start, block);
+// The next message of the buffer; or what is not settled yet, and the next block behind it; or the end.
+fn turn(progress: Progress, buffer: &mut [u8], text: &mut [u8]) -> Progress {
+    let rest = part(buffer, progress.from, progress.end);
+    let walked = division::walk(progress.over, rest);
+    match walked {
+        Walked::Message(at, length, _) => {
+            let message = part(rest, at, wrapping_add_usize(at, length));
+            given(passed(progress, at), message, text)
+        }
+        Walked::Unsettled(at) => {
+            if progress.over {
+                return ended(passed(progress, at), text);
+            }
+            read_on(passed(progress, at), buffer)
+        }
+    }
+}
+
+// Turn after turn until there is no more to do. An input has an end, though nothing says so: the turns are counted down from a number that no run uses up.
+fn run(start: Progress, buffer: &mut [u8], text: &mut [u8]) {
+    let mut progress = start;
     let mut turns = u64::MAX;
     while turns > 0 {
         turns -= 1;
-        progress = turn(progress, block, window, output, text);
+        progress = turn(progress, buffer, text);
         if !progress.going {
             return;
         }
     }
 }
 
-// Lends the buffers: 64 KiB of the recording, a message's length for the window and for the output, and twice 64 KiB of text.
 fn print_recording(rows: bool, heading: &[u8]) {
-    let mut block = [0u8; 65536];
-    let mut window = [0u8; 6136];
-    let mut output = [0u8; 6136];
+    let mut buffer = [0u8; 131072];
     let mut text = [0u8; 131072];
     let start = Progress {
         rows,
-        state: stream::fresh(),
-        position: 0,
         messages: 0,
         gap: 0,
-        waiting: text::put_all(&mut text, 0, heading),
+        position: 0,
         from: 0,
         end: 0,
+        over: false,
+        waiting: text::put_all(&mut text, 0, heading),
         going: true,
     };
-    run(start, &mut block, &mut window, &mut output, &mut text);
+    run(start, &mut buffer, &mut text);
 }
 
 // The listing of document 01.

@@ -6,18 +6,13 @@ use Rattle.report.proofs.run.Statement.{statement}
 use Rattle.report.proofs.run.Tie as tie
 use Rattle.report.proofs.run.Reads as reads
 use Rattle.report.proofs.run.Lts as lts
-use Rattle.report.proofs.read_on.Reads as read-on-reads
 use Rattle.report.proofs.turn.Reads as turn-reads
 
 abbrev Inv-loop : tie.InvT-loop
-Inv-loop block₀ window₀ output₀ text₀ progress₀ turns₀ block window output text progress turns =
-    (length block ≡ length block₀) × (length window ≡ length window₀) × (length output ≡ length output₀) × (length text ≡ length text₀)
+Inv-loop buffer₀ text₀ progress₀ turns₀ buffer text progress turns = (length buffer ≡ length buffer₀) × (length text ≡ length text₀)
 
 abbrev μ-loop : tie.MeasureT-loop
-μ-loop block₀ window₀ output₀ text₀ progress₀ turns₀ block window output text progress turns = turns
-
-read-on-requires : tie.Need-read-on-requires Inv-loop μ-loop
-read-on-requires c κs = search needs
+μ-loop buffer₀ text₀ progress₀ turns₀ buffer text progress turns = turns
 
 loop-holds : tie.Need-loop-holds Inv-loop μ-loop
 loop-holds c = search needs
@@ -34,12 +29,6 @@ same-length c = search needs
 same-length-2 : tie.Need-same-length-2 Inv-loop μ-loop
 same-length-2 c = search needs
 
-same-length-3 : tie.Need-same-length-3 Inv-loop μ-loop
-same-length-3 c = search needs
-
-same-length-4 : tie.Need-same-length-4 Inv-loop μ-loop
-same-length-4 c = search needs
-
 returns : tie.Need-returns Inv-loop μ-loop
 returns c = search needs
 
@@ -49,17 +38,11 @@ loop-less c = search needs
 loop-again : tie.Need-loop-again Inv-loop μ-loop
 loop-again c = search needs
 
-same-length-5 : tie.Need-same-length-5 Inv-loop μ-loop
-same-length-5 c = search needs
+same-length-3 : tie.Need-same-length-3 Inv-loop μ-loop
+same-length-3 c = search needs
 
-same-length-6 : tie.Need-same-length-6 Inv-loop μ-loop
-same-length-6 c = search needs
-
-same-length-7 : tie.Need-same-length-7 Inv-loop μ-loop
-same-length-7 c = search needs
-
-same-length-8 : tie.Need-same-length-8 Inv-loop μ-loop
-same-length-8 c = search needs
+same-length-4 : tie.Need-same-length-4 Inv-loop μ-loop
+same-length-4 c = search needs
 
 returns-2 : tie.Need-returns-2 Inv-loop μ-loop
 returns-2 c = search needs
@@ -70,19 +53,14 @@ run-spec =
     (tie.spec
     Inv-loop
     μ-loop
-    read-on-requires
     loop-holds
     sub-turns
     turn-requires
     same-length
     same-length-2
-    same-length-3
-    same-length-4
     returns
     loop-less
     loop-again
-    same-length-5
-    same-length-6
-    same-length-7
-    same-length-8
+    same-length-3
+    same-length-4
     returns-2)
