@@ -1,5 +1,5 @@
-/* Measures the library beside the careful reader in C: `bench FOLDER [LISTING]`. FOLDER has the listing over that reader as `listing`; LISTING is the
- * library's listing program, and without it the listing is left out.
+/* Measures the library beside the careful reader in C: `bench FOLDER LISTING`. FOLDER has the listing over that reader as `listing`; LISTING is the
+ * library's listing program.
  *
  * It first makes sure that both give the same messages and gaps. Then both run by turns, in short rounds, and of each the best CPU time counts. It
  * ends with 1 where a target is missed, with 2 where nothing can be measured.
@@ -50,13 +50,11 @@ typedef struct {
 /* Runs a reader over bytes in pieces of so many. */
 typedef void run(const uint8_t *bytes, size_t length, size_t piece, tally *t);
 
-/* One way to go over a stream. The ratio has to be reached where a piece is as long as one that a program reads: in small pieces the time is that of
- * a call, which has its own target. */
+/* One way to go over a stream. */
 typedef struct {
     const char *name;
     size_t piece;
     run *library;
-    int judged;
 } way;
 
 /* The best seconds of the library and of the C. */
@@ -138,13 +136,13 @@ static void run_c(const uint8_t *bytes, size_t length, size_t piece, tally *t) {
 }
 
 static const way ways[] = {
-    {"whole", SIZE_MAX, run_library, 1},
-    {"4096", 4096, run_library, 1},
-    {"64", 64, run_library, 0},
-    {"1", 1, run_library, 0},
-    {"cs_next", SIZE_MAX, run_plain, 0},
+    {"whole", SIZE_MAX, run_library},
+    {"4096", 4096, run_library},
+    {"64", 64, run_library},
+    {"1", 1, run_library},
+    {"cs_next", SIZE_MAX, run_plain},
 };
-enum { WAYS = 5, LISTING = WAYS, ROWS = WAYS + 1 };
+enum { WAYS = 5 };
 
 /* ---- in memory */
 
@@ -187,8 +185,8 @@ static double print_row(const char *name, const char *how, size_t length, times 
     return ratio;
 }
 
-/* Prints the row; answers the ratio, and in `call` the nanoseconds of a call. */
-static double measure(const stream *s, const way *w, double *call) {
+/* Prints the row; answers the nanoseconds of one call of the library. */
+static double measure(const stream *s, const way *w) {
     times best = {1e9, 1e9};
     uint64_t calls = 0, none;
     double begin = cpu_seconds();
@@ -196,10 +194,10 @@ static double measure(const stream *s, const way *w, double *call) {
         best.library = lesser(best.library, seconds_of(w->library, s, w, &calls));
         best.c = lesser(best.c, seconds_of(run_c, s, w, &none));
     }
-    *call = best.library * 1e9 / (double)calls;
-    double ratio = print_row(s->name, w->name, s->fed, best);
-    printf(" %12.1f\n", *call);
-    return ratio;
+    double call = best.library * 1e9 / (double)calls;
+    print_row(s->name, w->name, s->fed, best);
+    printf(" %12.1f\n", call);
+    return call;
 }
 
 /* ---- the listing */
@@ -278,60 +276,44 @@ static void compare_all(const char *folder, const char *program) {
         for (int j = 0; j < WAYS; j++) {
             compare(&streams[i], &ways[j]);
         }
-        if (program != NULL) {
-            compare_listings(&streams[i], folder, program);
-        }
+        compare_listings(&streams[i], folder, program);
     }
 }
 
-/* Prints the rows of a stream and leaves their ratios; answers the nanoseconds of a feed of one byte. */
-static double measure_all(const stream *s, const char *folder, const char *program, double *ratios) {
-    double feed = 0, call;
+/* Prints the rows of a stream; answers the nanoseconds of a feed of one byte. */
+static double measure_all(const stream *s) {
+    double feed = 0;
     for (int j = 0; j < WAYS; j++) {
-        ratios[j] = measure(s, &ways[j], &call);
-        if (ways[j].piece == 1) {
-            feed = call;
-        }
-    }
-    if (program != NULL) {
-        ratios[LISTING] = measure_listing(s, folder, program);
+        double call = measure(s, &ways[j]);
+        feed = ways[j].piece == 1 ? call : feed;
     }
     return feed;
 }
 
-/* Says whether a stream's target is reached in every row that is judged; answers 1 where it is missed. */
-static int judge(const stream *s, const double *ratios, int listing) {
-    int missed = 0;
-    printf("%s, to reach %.1f of the C:", s->name, s->target);
-    for (int j = 0; j < ROWS; j++) {
-        if (j == LISTING ? listing : ways[j].judged) {
-            printf(" %s %.2f,", j == LISTING ? "listing" : ways[j].name, ratios[j]);
-            missed |= ratios[j] < s->target;
-        }
-    }
-    printf(" %s\n", missed ? "MISSED" : "reached");
+/* Says whether the listing of a stream reaches its target; answers 1 where it is missed. */
+static int judge(const stream *s, double listing) {
+    int missed = listing < s->target;
+    printf("%s, listed: to reach %.1f of the C, %.2f, %s\n", s->name, s->target, listing, missed ? "MISSED" : "reached");
     return missed;
 }
 
 int main(int argc, char **argv) {
-    if (argc < 2 || argc > 3) {
-        stop("it is run as bench FOLDER [LISTING]");
+    if (argc != 3) {
+        stop("it is run as bench FOLDER LISTING");
     }
-    const char *folder = argv[1], *program = argc > 2 ? argv[2] : NULL;
-    double ratios[MEASURED][ROWS], feed = 0;
+    const char *folder = argv[1], *program = argv[2];
+    double listings[MEASURED], feed = 0;
     int missed = 0;
     make_streams();
     compare_all(folder, program);
     printf("%-8s %-8s %10s %10s %8s %12s\n", "stream", "pieces", "MB/s", "C's MB/s", "ratio", "ns a call");
     for (int i = 0; i < MEASURED; i++) {
-        double one = measure_all(&streams[i], folder, program, ratios[i]);
+        double one = measure_all(&streams[i]);
         feed = one > feed ? one : feed;
-    }
-    if (program == NULL) {
-        printf("no listing program was given: the listing is not measured\n");
+        listings[i] = measure_listing(&streams[i], folder, program);
     }
     for (int i = 0; i < MEASURED; i++) {
-        missed |= judge(&streams[i], ratios[i], program != NULL);
+        missed |= judge(&streams[i], listings[i]);
     }
     missed |= feed >= FEED_TARGET;
     printf("a feed of one byte, to stay under %.0f ns: %.1f ns, %s\n", FEED_TARGET, feed, feed >= FEED_TARGET ? "MISSED" : "reached");
