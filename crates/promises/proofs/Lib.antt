@@ -22,4 +22,5 @@ pub mod Checked
 pub mod Left
 pub mod RunRight
 pub mod AnyCut
+pub mod InPlace
 pub mod FinishAgain

@@ -5,3 +5,4 @@ pub mod Run
 pub mod Given
 pub mod Numbers
 pub mod Calls
+pub mod InPlace
