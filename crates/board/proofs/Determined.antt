@@ -1,5 +1,5 @@
 -- Each contract of `board` determines its answer, the lent state and every lent byte. Assumes nothing.
-use mathlib.Core.Path.{_≡_, refl}
+use mathlib.Core.Path.{refl}
 use contract.Lifetimes.{Lfts}
 use base.Logic.{emp}
 use denote.Triple.Entry.{Args, Res}

@@ -1,12 +1,10 @@
 -- Bytes where no sync string starts are passed over at once. Assumes nothing.
-use Prim.Native.Nat.{ℕ, zero, suc, _+_, _-_, _≤_, _<_}
+use Prim.Native.Nat.{ℕ, suc, _+_, _-_, _≤_, _<_}
 use mathlib.Core.Path.{_≡_, refl, ap, _∙_}
 use mathlib.Core.Logic.{_⊎_, inl, inr, ⊎-elim}
 use mathlib.Core.Bool.{Bool, true, false, cond}
 use mathlib.Core.List.{List, _∷_}
 use native.Mathlib.Omega.{arith}
-use native.Mathlib.Nat.{add-zero}
-use native.Mathlib.Numerals.{add-one}
 use lib.ListN.{length, getD, drop}
 use lib.Seq.{drop-cons}
 use lib.Dec.{ltb, eqb}
@@ -16,7 +14,6 @@ use Rattle.octets.specs.Begins.{fit}
 use Rattle.octets.specs.declared.Fit.the-variants.{Bad}
 use Rattle.front.specs.declared.Claim.the-variants.{Nothing}
 use Rattle.front.specs.Claim.{claimBy, claim}
-use Rattle.division.specs.Walk.{walkedBy, walkOf}
 use Rattle.division.specs.Steps.{NoStart, Skipped}
 
 -- ---- what the loops find

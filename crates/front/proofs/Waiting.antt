@@ -15,7 +15,7 @@ use Rattle.macm.specs.declared.Form.the-variants.{New, Old}
 use Rattle.macm.specs.Form.{newSync, oldSync, countAt, size}
 use Rattle.front.specs.declared.Claim.the-variants.{Nothing, AtLeast, Long}
 use Rattle.front.specs.Claim.{cap, counted, claimBy, claim}
-use Rattle.front.specs.Look.{Look, unsettled, lookBy, look, needBy, need}
+use Rattle.front.specs.Look.{unsettled, lookBy, look, needBy, need}
 use Rattle.front.proofs.Settled.{fit-append}
 
 fit-whole : (t xs ys : List ℕ) → fit t xs ≡ Whole → fit t (xs ++ ys) ≡ Whole

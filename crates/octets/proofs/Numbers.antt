@@ -1,6 +1,6 @@
 -- Numbers in bytes: there and back, at every width. Assumes nothing.
 use Prim.Native.Nat.{ℕ, zero, suc, _+_, _*_, _/_, _%_, _^_, _≤_, _<_}
-use mathlib.Core.Path.{_≡_, refl, sym, ap, ap₂, _∙_}
+use mathlib.Core.Path.{_≡_, refl, sym, ap, _∙_}
 use mathlib.Core.List.{List, [], _∷_, _++_, append-assoc, append-nil}
 use native.Mathlib.Omega.{arith}
 use native.Mathlib.Nat.{pow-suc, div-lt-iff-lt-mul, mul-le-mul-right, mul-assoc, mul-comm, lt-of-lt-of-le, le-trans, le-of-eq, add-zero}
@@ -9,7 +9,7 @@ use mathlib.Core.Bool.{Bool, true, false}
 use lib.Dec.{ltb}
 use borrow.Author.Tests.{ltb-true, ltb-false}
 use lib.Seq.{length-take-le, getD-take, getD-drop}
-use lib.ListN.{length, getD, take, drop, length-append, length-drop, length-take, List·getD-eq-default}
+use lib.ListN.{length, getD, drop, length-append, length-drop, length-take, List·getD-eq-default}
 use Rattle.octets.specs.Numbers.{numberFrom, number, bytesOf, Bytes, numberAt}
 use Rattle.octets.specs.Parts.{part}
 

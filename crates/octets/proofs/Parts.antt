@@ -1,11 +1,11 @@
 -- Parts of a list: put in the middle, written over the front. Assumes nothing.
-use Prim.Native.Nat.{ℕ, zero, suc, _+_, _-_, _*_, _≤_, _<_}
+use Prim.Native.Nat.{ℕ, zero, suc, _+_, _-_, _≤_, _<_}
 use mathlib.Core.Path.{_≡_, refl, sym, ap, ap₂, _∙_}
 use mathlib.Core.List.{List, [], _∷_, _++_, append-assoc, append-nil}
 use native.Mathlib.Omega.{arith}
 use native.Mathlib.Nat.{zero-add, suc-add}
-use lib.ListN.{length, getD, set, take, drop, length-append, length-drop, length-take, drop-of-length-le, List·getD-append}
-use lib.Seq.{take-at, drop-at, take-nil, drop-nil, drop-append-add, drop-drop, drop-cons, set-at, append-snoc, length-take-le, getD-take, getD-drop, getD-append-add}
+use lib.ListN.{length, getD, set, take, drop, length-append, length-drop, drop-of-length-le, List·getD-append}
+use lib.Seq.{take-at, take-nil, drop-append-add, drop-drop, drop-cons, set-at, append-snoc, length-take-le, getD-take, getD-drop, getD-append-add}
 use Rattle.octets.specs.Parts.{over, put, part}
 
 pub drop-take : (a n : ℕ) (l : List ℕ) → drop a (take (a + n) l) ≡ take n (drop a l)

@@ -7,8 +7,7 @@ use native.Mathlib.Omega.{arith}
 use lib.ListN.{length, take, drop, replicate, length-drop}
 use lib.Seq.{length-take-le, take-all}
 use lib.Dec.{ltb, eqb}
-use borrow.Author.Tests.{lt-ltb, le-ltb, ltb-false, eq-eqb, ne-eqb, eqb-true}
-use Rattle.octets.specs.Parts.{over}
+use borrow.Author.Tests.{lt-ltb, le-ltb, ltb-false, eq-eqb, ne-eqb}
 use Rattle.refusal.specs.declared.Refusal.{Refusal}
 use Rattle.refusal.specs.declared.Refusal.the-variants.{SmallBuffer, BadState, Ended, TooMuch}
 use Rattle.division.specs.declared.Walked.{Walked}
@@ -19,13 +18,13 @@ use Rattle.stream.specs.declared.Answer.the-variants.{Refused, End}
 use Rattle.stream.specs.declared.Reply.{Reply}
 use Rattle.stream.specs.declared.Gate.{Gate}
 use Rattle.stream.specs.declared.Gate.the-variants.{Refused as Shut, Open}
-use Rattle.stream.specs.Scan.{Scan, got, stop, scan}
+use Rattle.stream.specs.Scan.{got, stop, scan}
 use Rattle.stream.specs.Feed.{Fed, given, more, fed, feed, finish}
-use Rattle.stream.specs.Reader.{room, limit, checked, feedCheckedBy, feedChecked, Call, replyOf, Leaves, laid, givenReply, moreReply, refusal, fedCall, feedBy, feedCall, finishedCall, finishBy, finishCall}
+use Rattle.stream.specs.Reader.{room, limit, checked, feedCheckedBy, feedChecked, Call, Leaves, laid, givenReply, moreReply, fedCall, feedCall, finishedCall, finishCall}
 use Rattle.stream.specs.Steps.{Allowed, FilledGiven, FilledWants, FilledEmpty, Gave, Left}
 use Rattle.stream.proofs.ScanLaws.{StopsEmpty, scan-empty-at}
 use Rattle.stream.proofs.WalkScan.{found-message, found-none}
-use Rattle.stream.proofs.Reach.{FedMessage, FedMore, fed-message, fed-more}
+use Rattle.stream.proofs.Reach.{FedMessage, FedMore}
 use Rattle.stream.proofs.WindowSteps.{laid-same, laid-take}
 
 -- ---- the checks, test by test

@@ -11,7 +11,7 @@ use native.Mathlib.Omega.{arith}
 use lib.ListN.{length, getD, take, drop, length-append, length-drop, take-append-drop, drop-of-length-le}
 use lib.Seq.{length-take-le, take-append-le, drop-append-le, drop-cons}
 use lib.Dec.{ltb, leb}
-use borrow.Author.Tests.{ltb-true, ltb-false, le-leb, lt-leb, leb-true, leb-false, lt-ltb, le-ltb}
+use borrow.Author.Tests.{ltb-true, ltb-false, le-leb, lt-leb, leb-true}
 use Rattle.macm.specs.Check.{agrees}
 use Rattle.front.specs.declared.Claim.{Claim}
 use Rattle.front.specs.declared.Claim.the-variants.{Nothing, AtLeast, Long}
@@ -27,7 +27,7 @@ use Rattle.division.proofs.WalkSteps.{walk-at}
 use Rattle.stream.specs.Scan.{settle, seen, Scan, got, stop, scanned, scan}
 use Rattle.stream.specs.Feed.{Fed, given, more, feed}
 use Rattle.stream.proofs.ScanLaws.{scan-append, ScanFact, scan-fact}
-use Rattle.stream.proofs.FeedLaws.{settled, Fewest, FedFact, feed-fewest}
+use Rattle.stream.proofs.FeedLaws.{settled, FedFact, feed-fewest}
 
 -- ---- what a walk over the piece p says of a feed of it
 pub record FedMessage (p : List ℕ) (k n t : ℕ) : Type 0 where

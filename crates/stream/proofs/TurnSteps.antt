@@ -24,7 +24,7 @@ use Rattle.stream.specs.declared.Turn.the-variants.{Message, More, Empty
 use Rattle.stream.specs.Scan.{got, stop, scan}
 use Rattle.stream.specs.Feed.{fed, feed, given, more}
 use Rattle.stream.specs.Steps.{TurnedOn, TurnedMore, TurnedEmpty, Turned, Opened, FilledGiven, FilledWants, FilledEmpty, FilledAs}
-use Rattle.stream.proofs.ScanLaws.{scan-open-at, StopsOpen}
+use Rattle.stream.proofs.ScanLaws.{scan-open-at}
 use Rattle.stream.proofs.FeedLaws.{fed-bulk}
 use Rattle.stream.proofs.WalkScan.{found-message, found-none}
 

@@ -12,12 +12,12 @@ use Rattle.macm.specs.Check.{agrees}
 use Rattle.front.specs.declared.Claim.{Claim}
 use Rattle.front.specs.declared.Claim.the-variants.{Nothing, AtLeast, Long}
 use Rattle.front.specs.Claim.{claim}
-use Rattle.front.specs.Look.{Look, unsettled, gap, message, judged, lookBy, look}
+use Rattle.front.specs.Look.{unsettled, gap, message, judged, lookBy, look}
 use Rattle.front.proofs.Bounds.{ClaimFact, claim-fact}
 use Rattle.division.specs.declared.Walked.{Walked}
 use Rattle.division.specs.declared.Walked.the-variants.{Message, Unsettled}
 use Rattle.division.specs.Walk.{further, wanting, walkedBy, walkOf}
-use Rattle.stream.specs.Scan.{settle, seen, Scan, got, stop, scanned, scan}
+use Rattle.stream.specs.Scan.{settle, seen, got, stop, scanned, scan}
 
 -- a message of n bytes, `ahead` bytes on
 pub record FoundMessage (e : Bool) (xs : List ℕ) (at k n : ℕ) : Type 0 where

@@ -1,13 +1,13 @@
 -- A number's digits, read, are the number; and texts worked out. Assumes nothing.
-use Prim.Native.Nat.{ℕ, zero, suc, _+_, _-_, _*_, _/_, _%_, _^_, _≤_, _<_}
-use mathlib.Core.Path.{_≡_, refl, sym, ap, _∙_}
+use Prim.Native.Nat.{ℕ, zero, suc, _+_, _-_, _*_, _/_, _%_, _^_, _<_}
+use mathlib.Core.Path.{_≡_, refl, _∙_}
 use mathlib.Core.Bool.{Bool, true, false, cond}
 use mathlib.Core.List.{List, [], _∷_, _++_}
 use native.Mathlib.Omega.{arith}
 use native.Mathlib.Nat.{pow-suc, mod-lt}
-use borrow.Author.Tests.{lt-ltb, ltb-true, ltb-false}
+use borrow.Author.Tests.{lt-ltb, ltb-true}
 use lib.Dec.{ltb, lit<}
-use lib.IntN.{pos, negsuc}
+use lib.IntN.{negsuc}
 use Rattle.text.specs.Digits.{digitOf, digits, needed, decimal, metres, hertz}
 use Rattle.text.specs.Double.{cycles, nonfinite, wide}
 use Rattle.text.proofs.Spelling.{tenth-fits}

@@ -1,12 +1,12 @@
 -- A double in thousandths: the shift gives the nearest whole number. Assumes nothing.
-use Prim.Native.Nat.{ℕ, zero, suc, _+_, _-_, _*_, _/_, _%_, _^_, _≤_, _<_}
-use mathlib.Core.Path.{_≡_, refl, sym, ap, ap₂, subst, _∙_}
+use Prim.Native.Nat.{ℕ, suc, _+_, _-_, _*_, _/_, _%_, _^_, _<_}
+use mathlib.Core.Path.{_≡_, refl, sym, ap, ap₂, _∙_}
 use mathlib.Core.Bool.{Bool, true, false, cond}
 use native.Mathlib.Omega.{arith}
 use native.Mathlib.Nat.{add-mul, mul-assoc, mul-comm, mul-left-comm, pow-suc, div-eq-of-lt, div-div-eq-div-mul, mul-div-mul-right, mod-lt, lt-trans}
-use borrow.Author.Tests.{eq-eqb, ne-eqb, eqb-true, eqb-false}
+use borrow.Author.Tests.{ne-eqb}
 use lib.Dec.{eqb, lit<}
-use lib.Pow.{pow-add, pow-pos, pow-lt, pow-mono, shl-lt}
+use lib.Pow.{pow-add, pow-pos, pow-lt, shl-lt}
 use Rattle.text.specs.Double.{exponentOf, fractionOf, sizeOf, nearest, thousandths}
 
 -- both numbers made larger alike

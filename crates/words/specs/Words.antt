@@ -4,7 +4,7 @@ use Prim.Native.Nat.{ℕ, suc, _-_, _^_, _%_}
 use mathlib.Core.Bool.{cond}
 use lib.Dec.{eqb}
 use lib.IntN.{ℤ, pos, negsuc}
-use lib.Ieee.{Float, binary64, ofBits}
+use lib.Ieee.{binary64, ofBits}
 use Rattle.octets.specs.Signed.{signedOf, half}
 use Rattle.units.specs.Units.{lockOf, countIn}
 use Rattle.refusal.specs.Numbers.{numberOf}

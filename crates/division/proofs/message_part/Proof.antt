@@ -3,7 +3,6 @@ use Prim.Native.Nat.{_+_, _-_}
 use mathlib.Core.Path.{_≡_, refl, sym, ap, _∙_}
 use native.Mathlib.Omega.{arith}
 use lib.ListN.{take, drop}
-use Rattle.division.specs.Plain.{placeOf, bytesIn}
 use Rattle.division.proofs.PlainSteps.{given-within}
 use borrow.Author.Needs.{needs}
 use Rattle.division.proofs.message_part.Statement.{statement}

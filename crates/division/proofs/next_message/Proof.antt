@@ -1,5 +1,4 @@
 -- `division::next_message` meets its contract. Assumes nothing.
-use mathlib.Core.Path.{_∙_}
 use native.Mathlib.Omega.{arith}
 use lib.ListN.{length-drop}
 use Rattle.division.proofs.PlainSteps.{next-past, next-given, next-end, ends-message, ends-unsettled}

@@ -1,6 +1,5 @@
 -- `division::settle` meets its contract. Assumes nothing.
-use mathlib.Core.Path.{sym, _∙_}
-use native.Mathlib.Omega.{arith}
+use mathlib.Core.Path.{_∙_}
 use Rattle.division.proofs.WalkSteps.{nothing, waits, short, agreed, damaged, claimed, summed}
 use borrow.Author.Needs.{needs}
 use Rattle.division.proofs.settle.Statement.{statement}

@@ -2,9 +2,6 @@
 use borrow.Author.Needs.{needs}
 use Rattle.lines.proofs.count_in.Statement.{statement}
 use Rattle.lines.proofs.count_in.Tie as tie
-use Rattle.lines.proofs.count_in.Reads as reads
-use Rattle.lines.proofs.count_in.Lts as lts
-use mathlib.Core.Path.{refl}
 
 enum-told : tie.Need-enum-told
 enum-told c = search needs

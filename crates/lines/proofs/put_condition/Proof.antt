@@ -2,10 +2,6 @@
 use borrow.Author.Needs.{needs}
 use Rattle.lines.proofs.put_condition.Statement.{statement}
 use Rattle.lines.proofs.put_condition.Tie as tie
-use Rattle.lines.proofs.put_condition.Reads as reads
-use Rattle.lines.proofs.put_condition.Lts as lts
-use Rattle.lines.proofs.put_polarity.Reads as put-polarity-reads
-use Rattle.text.proofs.put.Reads as put-reads
 
 enum-known-condition : tie.Need-enum-known-condition
 enum-known-condition c = search needs

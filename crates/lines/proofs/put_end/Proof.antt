@@ -2,12 +2,6 @@
 use borrow.Author.Needs.{needs}
 use Rattle.lines.proofs.put_end.Statement.{statement}
 use Rattle.lines.proofs.put_end.Tie as tie
-use Rattle.lines.proofs.put_end.Reads as reads
-use Rattle.lines.proofs.put_end.Lts as lts
-use Rattle.lines.proofs.put_number.Reads as put-number-reads
-use Rattle.text.proofs.put.Reads as put-reads
-use Rattle.text.proofs.put_all.Reads as put-all-reads
-use Rattle.text.proofs.put_decimal.Reads as put-decimal-reads
 use Rattle.text.proofs.PutLaws.{puts-join}
 
 slice-aggregate-put-all : tie.Need-slice-aggregate-put-all

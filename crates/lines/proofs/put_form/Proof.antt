@@ -2,9 +2,6 @@
 use borrow.Author.Needs.{needs}
 use Rattle.lines.proofs.put_form.Statement.{statement}
 use Rattle.lines.proofs.put_form.Tie as tie
-use Rattle.lines.proofs.put_form.Reads as reads
-use Rattle.lines.proofs.put_form.Lts as lts
-use Rattle.text.proofs.put_all.Reads as put-all-reads
 
 enum-told : tie.Need-enum-told
 enum-told c = search needs

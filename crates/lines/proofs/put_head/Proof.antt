@@ -2,10 +2,6 @@
 use borrow.Author.Needs.{needs}
 use Rattle.lines.proofs.put_head.Statement.{statement}
 use Rattle.lines.proofs.put_head.Tie as tie
-use Rattle.lines.proofs.put_head.Reads as reads
-use Rattle.lines.proofs.put_head.Lts as lts
-use Rattle.lines.proofs.put_number.Reads as put-number-reads
-use Rattle.lines.proofs.put_signal.Reads as put-signal-reads
 use Rattle.text.proofs.PutLaws.{puts-join}
 
 put-number-requires : tie.Need-put-number-requires

@@ -2,10 +2,6 @@
 use borrow.Author.Needs.{needs}
 use Rattle.lines.proofs.put_line.Statement.{statement}
 use Rattle.lines.proofs.put_line.Tie as tie
-use Rattle.lines.proofs.put_line.Reads as reads
-use Rattle.lines.proofs.put_line.Lts as lts
-use Rattle.lines.proofs.put_message.Reads as put-message-reads
-use Rattle.macm.proofs.read.Reads as read-reads
 use mathlib.Core.Path.{sym, _∙_}
 use Rattle.text.proofs.PutLaws.{puts-none}
 

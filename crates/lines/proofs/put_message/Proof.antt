@@ -2,12 +2,6 @@
 use borrow.Author.Needs.{needs}
 use Rattle.lines.proofs.put_message.Statement.{statement}
 use Rattle.lines.proofs.put_message.Tie as tie
-use Rattle.lines.proofs.put_message.Reads as reads
-use Rattle.lines.proofs.put_message.Lts as lts
-use Rattle.lines.proofs.put_form.Reads as put-form-reads
-use Rattle.lines.proofs.put_number.Reads as put-number-reads
-use Rattle.text.proofs.put.Reads as put-reads
-use Rattle.text.proofs.put_decimal.Reads as put-decimal-reads
 use Rattle.text.proofs.PutLaws.{puts-join}
 
 put-number-requires : tie.Need-put-number-requires

@@ -2,12 +2,6 @@
 use borrow.Author.Needs.{needs}
 use Rattle.lines.proofs.put_observation.Statement.{statement}
 use Rattle.lines.proofs.put_observation.Tie as tie
-use Rattle.lines.proofs.put_observation.Reads as reads
-use Rattle.lines.proofs.put_observation.Lts as lts
-use Rattle.lines.proofs.put_head.Reads as put-head-reads
-use Rattle.lines.proofs.put_range.Reads as put-range-reads
-use Rattle.lines.proofs.put_rate.Reads as put-rate-reads
-use Rattle.lines.proofs.put_shown.Reads as put-shown-reads
 use Rattle.text.proofs.PutLaws.{puts-join}
 
 put-head-requires : tie.Need-put-head-requires

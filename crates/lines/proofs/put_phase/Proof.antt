@@ -2,10 +2,6 @@
 use borrow.Author.Needs.{needs}
 use Rattle.lines.proofs.put_phase.Statement.{statement}
 use Rattle.lines.proofs.put_phase.Tie as tie
-use Rattle.lines.proofs.put_phase.Reads as reads
-use Rattle.lines.proofs.put_phase.Lts as lts
-use Rattle.text.proofs.put_all.Reads as put-all-reads
-use Rattle.text.proofs.put_cycles.Reads as put-cycles-reads
 
 enum-told : tie.Need-enum-told
 enum-told c = search needs

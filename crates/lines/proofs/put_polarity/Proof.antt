@@ -2,10 +2,6 @@
 use borrow.Author.Needs.{needs}
 use Rattle.lines.proofs.put_polarity.Statement.{statement}
 use Rattle.lines.proofs.put_polarity.Tie as tie
-use Rattle.lines.proofs.put_polarity.Reads as reads
-use Rattle.lines.proofs.put_polarity.Lts as lts
-use Rattle.text.proofs.put_all.Reads as put-all-reads
-use Rattle.text.proofs.put_decimal.Reads as put-decimal-reads
 use Rattle.text.proofs.PutLaws.{puts-join}
 
 enum-told : tie.Need-enum-told

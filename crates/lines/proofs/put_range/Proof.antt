@@ -2,13 +2,6 @@
 use borrow.Author.Needs.{needs}
 use Rattle.lines.proofs.put_range.Statement.{statement}
 use Rattle.lines.proofs.put_range.Tie as tie
-use Rattle.lines.proofs.put_range.Reads as reads
-use Rattle.lines.proofs.put_range.Lts as lts
-use Rattle.lines.proofs.put_number.Reads as put-number-reads
-use Rattle.text.proofs.put.Reads as put-reads
-use Rattle.text.proofs.put_hex.Reads as put-hex-reads
-use Rattle.text.proofs.put_metres.Reads as put-metres-reads
-use Rattle.track.proofs.range_of.Reads as range-of-reads
 use Rattle.text.proofs.PutLaws.{puts-join}
 
 cast-put-number : tie.Need-cast-put-number

@@ -1,19 +1,10 @@
 use borrow.Author.Needs.{needs}
 use Rattle.lines.proofs.put_rate.Statement.{statement}
 use Rattle.lines.proofs.put_rate.Tie as tie
-use Rattle.lines.proofs.put_rate.Reads as reads
-use Rattle.lines.proofs.put_rate.Lts as lts
-use Rattle.text.proofs.put.Reads as put-reads
-use Rattle.text.proofs.put_decimal.Reads as put-decimal-reads
-use Rattle.text.proofs.put_hertz.Reads as put-hertz-reads
-use Rattle.units.proofs.Millis.number.Reads as number-reads
-use Rattle.units.proofs.since_lock.Reads as since-lock-reads
 use Rattle.text.proofs.PutLaws.{puts-join}
 use mir.Syntax.{w32}
 use mir.ValLaws.{toZ-ofZ}
 use mathlib.Core.Path.{_∙_, ap}
-use lib.IntN.{ℤ}
-use Rattle.text.specs.Digits.{hertz, decimal}
 use Rattle.units.specs.Units.{millisIn}
 
 -- `lines::put_rate` meets its contract. Assumes nothing.

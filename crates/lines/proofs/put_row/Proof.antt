@@ -2,9 +2,6 @@
 use borrow.Author.Needs.{needs}
 use Rattle.lines.proofs.put_row.Statement.{statement}
 use Rattle.lines.proofs.put_row.Tie as tie
-use Rattle.lines.proofs.put_row.Reads as reads
-use Rattle.lines.proofs.put_row.Lts as lts
-use Rattle.lines.proofs.put_observation.Reads as put-observation-reads
 use Rattle.text.proofs.PutLaws.{puts-none}
 
 enum-told : tie.Need-enum-told

@@ -1,19 +1,14 @@
 use borrow.Author.Needs.{needs}
 use Rattle.lines.proofs.put_rows.Statement.{statement}
 use Rattle.lines.proofs.put_rows.Tie as tie
-use Rattle.lines.proofs.put_rows.Reads as reads
-use Rattle.lines.proofs.put_rows.Lts as lts
-use Rattle.lines.proofs.count_in.Reads as count-in-reads
-use Rattle.lines.proofs.put_row.Reads as put-row-reads
-use Rattle.macm.proofs.read.Reads as read-reads
 use Prim.Native.Nat.{_-_, _≤_}
-use mathlib.Core.Path.{_≡_, refl, sym, ap, _∙_}
+use mathlib.Core.Path.{_≡_, ap, _∙_}
 use native.Mathlib.Omega.{arith}
 use native.Mathlib.Numerals.{add-one}
 use Rattle.macm.specs.Read.{readOf}
 use Rattle.text.specs.Put.{Puts}
 use Rattle.text.proofs.PutLaws.{puts-none, puts-join, puts-length}
-use Rattle.lines.specs.Rows.{countIn, rowText, rowsUpTo}
+use Rattle.lines.specs.Rows.{countIn, rowsUpTo}
 
 -- `lines::put_rows` meets its contract: after each turn the rows up to its index are put. Assumes nothing.
 

@@ -2,14 +2,6 @@
 use borrow.Author.Needs.{needs}
 use Rattle.lines.proofs.put_shown.Statement.{statement}
 use Rattle.lines.proofs.put_shown.Tie as tie
-use Rattle.lines.proofs.put_shown.Reads as reads
-use Rattle.lines.proofs.put_shown.Lts as lts
-use Rattle.lines.proofs.put_condition.Reads as put-condition-reads
-use Rattle.lines.proofs.put_phase.Reads as put-phase-reads
-use Rattle.text.proofs.put.Reads as put-reads
-use Rattle.text.proofs.put_hex.Reads as put-hex-reads
-use Rattle.track.proofs.condition_of.Reads as condition-of-reads
-use Rattle.track.proofs.phase_of.Reads as phase-of-reads
 use Rattle.text.proofs.PutLaws.{puts-join}
 
 phase-of-requires : tie.Need-phase-of-requires

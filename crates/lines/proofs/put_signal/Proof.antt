@@ -2,10 +2,6 @@
 use borrow.Author.Needs.{needs}
 use Rattle.lines.proofs.put_signal.Statement.{statement}
 use Rattle.lines.proofs.put_signal.Tie as tie
-use Rattle.lines.proofs.put_signal.Reads as reads
-use Rattle.lines.proofs.put_signal.Lts as lts
-use Rattle.lines.proofs.put_number.Reads as put-number-reads
-use Rattle.text.proofs.put_all.Reads as put-all-reads
 use Rattle.text.proofs.PutLaws.{puts-join}
 
 enum-known-form : tie.Need-enum-known-form

@@ -1,13 +1,13 @@
 -- `octets::checksum` meets its contract: the loop carries the checksum of the bytes passed. Assumes nothing.
-use Prim.Native.Nat.{ℕ, suc, zero, _+_, _-_, _≤_, _<_}
-use mathlib.Core.Path.{_≡_, refl, ap, _∙_, sym}
-use mathlib.Core.List.{List, [], _∷_}
+use Prim.Native.Nat.{ℕ, _+_, _-_, _≤_, _<_}
+use mathlib.Core.Path.{_≡_, refl, _∙_, sym}
+use mathlib.Core.List.{List}
 use native.Mathlib.Numerals.{add-one}
 use native.Mathlib.Omega.{arith}
 use lib.ListN.{length, getD, drop, drop-of-length-le}
 use lib.Seq.{drop-cons}
 use lib.Bits.{bitXor}
-use Rattle.octets.specs.Checksum.{checksumFrom, checksumOf}
+use Rattle.octets.specs.Checksum.{checksumFrom}
 use Rattle.octets.proofs.checksum.Statement.{statement}
 use Rattle.octets.proofs.checksum.Tie as tie
 

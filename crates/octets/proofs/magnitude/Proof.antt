@@ -1,7 +1,6 @@
 -- `octets::magnitude` meets its contract. Assumes nothing.
-use borrow.Author.Needs.{needs}
 use mathlib.Core.Path.{sym, ap, subst}
-use lib.IntN.{ℤ, pos, natAbs}
+use lib.IntN.{ℤ, natAbs}
 use mir.Syntax.{w32}
 use mir.Val.{SFits}
 use Rattle.octets.proofs.Signed.{is-above, is-below, is-below-back, mag-fits, cast-ok}

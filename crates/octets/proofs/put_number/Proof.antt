@@ -1,10 +1,9 @@
 -- `octets::put_number` meets its contract: the loop goes down from the last byte, and what it has yet to write is the bytes of what is left of the number. Assumes nothing.
-use Prim.Native.Nat.{ℕ, suc, _+_, _-_, _*_, _/_, _%_, _^_, _≤_, _<_}
+use Prim.Native.Nat.{ℕ, suc, _+_, _-_, _/_, _%_, _≤_, _<_}
 use mathlib.Core.Path.{_≡_, refl, sym, ap, ap₂, _∙_}
-use mathlib.Core.List.{List, [], _∷_, _++_, append-nil}
+use mathlib.Core.List.{List, _∷_, _++_, append-nil}
 use native.Mathlib.Omega.{arith}
-use native.Mathlib.Numerals.{add-one}
-use lib.ListN.{length, getD, set, drop, length-set}
+use lib.ListN.{length, set, drop, length-set}
 use lib.Seq.{drop-cons, drop-length, getD-set-same, drop-set-lt, append-snoc}
 use Rattle.octets.specs.Numbers.{bytesOf}
 use borrow.Author.Needs.{needs}

@@ -1,7 +1,7 @@
 -- `octets::signed_within` meets its contract. Assumes nothing.
 use borrow.Author.Needs.{needs}
 use mathlib.Core.Path.{_≡_, sym, ap, _∙_}
-use Prim.Native.Nat.{ℕ, suc, _-_, _*_, _<_}
+use Prim.Native.Nat.{suc, _-_, _*_}
 use native.Mathlib.Omega.{arith}
 use lib.IntN.{ℤ, negsuc}
 use mir.Syntax.{w32}

@@ -1,5 +1,5 @@
 -- `octets::starts` meets its contract. Assumes nothing.
-use mathlib.Core.Path.{_≡_, sym, ap, _∙_}
+use mathlib.Core.Path.{sym, ap, _∙_}
 use Rattle.octets.specs.Begins.{isWhole}
 use borrow.Author.Needs.{needs}
 use Rattle.octets.proofs.starts.Statement.{statement}

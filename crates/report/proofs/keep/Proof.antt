@@ -5,8 +5,6 @@ use lib.ListN.{length}
 use borrow.Author.Needs.{needs}
 use Rattle.report.proofs.keep.Statement.{statement}
 use Rattle.report.proofs.keep.Tie as tie
-use Rattle.report.proofs.keep.Reads as reads
-use Rattle.report.proofs.keep.Lts as lts
 
 abbrev Inv-loop : tie.InvT-loop
 Inv-loop buffer₀ from end count i₀ buffer i = (i ≤ count) × (length buffer ≡ length buffer₀)

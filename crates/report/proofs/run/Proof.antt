@@ -4,9 +4,6 @@ use lib.ListN.{length}
 use borrow.Author.Needs.{needs}
 use Rattle.report.proofs.run.Statement.{statement}
 use Rattle.report.proofs.run.Tie as tie
-use Rattle.report.proofs.run.Reads as reads
-use Rattle.report.proofs.run.Lts as lts
-use Rattle.report.proofs.turn.Reads as turn-reads
 
 abbrev Inv-loop : tie.InvT-loop
 Inv-loop buffer₀ text₀ progress₀ turns₀ buffer text progress turns = (length buffer ≡ length buffer₀) × (length text ≡ length text₀)

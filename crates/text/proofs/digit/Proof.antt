@@ -1,8 +1,6 @@
 use borrow.Author.Needs.{needs}
 use Rattle.text.proofs.digit.Statement.{statement}
 use Rattle.text.proofs.digit.Tie as tie
-use Rattle.text.proofs.digit.Reads as reads
-use Rattle.text.proofs.digit.Lts as lts
 use borrow.Author.Tests.{lt-ltb, le-ltb}
 
 -- `text::digit` meets its contract. Assumes nothing.

@@ -2,9 +2,6 @@
 use borrow.Author.Needs.{needs}
 use Rattle.text.proofs.put_all.Statement.{statement}
 use Rattle.text.proofs.put_all.Tie as tie
-use Rattle.text.proofs.put_all.Reads as reads
-use Rattle.text.proofs.put_all.Lts as lts
-use Rattle.text.proofs.put.Reads as put-reads
 use Prim.Native.Nat.{_≤_, _<_, _-_}
 use lib.ListN.{length, take}
 use lib.Seq.{take-suc, take-all}

@@ -2,15 +2,7 @@
 use borrow.Author.Needs.{needs}
 use Rattle.text.proofs.put_cycles.Statement.{statement}
 use Rattle.text.proofs.put_cycles.Tie as tie
-use Rattle.text.proofs.put_cycles.Reads as reads
-use Rattle.text.proofs.put_cycles.Lts as lts
-use Rattle.text.proofs.put.Reads as put-reads
-use Rattle.text.proofs.put_all.Reads as put-all-reads
-use Rattle.text.proofs.put_fixed.Reads as put-fixed-reads
-use Rattle.text.proofs.round_thousandths.Reads as round-thousandths-reads
-use mathlib.Core.Path.{_≡_, refl, sym, ap, _∙_}
 use borrow.Author.Tests.{eq-eqb, ne-eqb, lt-ltb, le-ltb}
-use Rattle.text.specs.Double.{cycles}
 use Rattle.text.proofs.PutLaws.{puts-join}
 
 slice-aggregate-put-all : tie.Need-slice-aggregate-put-all

@@ -2,11 +2,6 @@
 use borrow.Author.Needs.{needs}
 use Rattle.text.proofs.put_fixed.Statement.{statement}
 use Rattle.text.proofs.put_fixed.Tie as tie
-use Rattle.text.proofs.put_fixed.Reads as reads
-use Rattle.text.proofs.put_fixed.Lts as lts
-use Rattle.text.proofs.put.Reads as put-reads
-use Rattle.text.proofs.put_decimal.Reads as put-decimal-reads
-use Rattle.text.proofs.put_digits.Reads as put-digits-reads
 use Rattle.text.proofs.PutLaws.{puts-join}
 
 div-put-decimal : tie.Need-div-put-decimal

@@ -2,13 +2,9 @@
 use borrow.Author.Needs.{needs}
 use Rattle.text.proofs.put_hertz.Statement.{statement}
 use Rattle.text.proofs.put_hertz.Tie as tie
-use Rattle.text.proofs.put_hertz.Reads as reads
-use Rattle.text.proofs.put_hertz.Lts as lts
-use Rattle.text.proofs.put.Reads as put-reads
-use Rattle.text.proofs.put_fixed.Reads as put-fixed-reads
 use mathlib.Core.Path.{_≡_, sym, ap, _∙_, subst}
 use mathlib.Core.List.{_∷_}
-use Prim.Native.Nat.{ℕ, suc, _+_}
+use Prim.Native.Nat.{ℕ, _+_}
 use native.Mathlib.Omega.{arith}
 use native.Mathlib.Numerals.{add-one}
 use lib.IntN.{ℤ, natAbs}

@@ -1,13 +1,10 @@
 use borrow.Author.Needs.{needs}
 use Rattle.text.proofs.round_thousandths.Statement.{statement}
 use Rattle.text.proofs.round_thousandths.Tie as tie
-use Rattle.text.proofs.round_thousandths.Reads as reads
-use Rattle.text.proofs.round_thousandths.Lts as lts
-use Prim.Native.Nat.{suc, _+_, _-_, _*_, _%_, _^_, _<_, _≤_, ℕ}
-use mathlib.Core.Path.{_≡_, sym, ap, _∙_}
+use Prim.Native.Nat.{_-_, _*_, _%_, _^_, _<_, _≤_, ℕ}
+use mathlib.Core.Path.{_≡_, _∙_}
 use native.Mathlib.Omega.{arith}
 use lib.Pow.{shl-exact, pow-mono}
-use Rattle.text.specs.Double.{exponentOf}
 use Rattle.text.proofs.Rounding.{thousandths-shift, thousandths-whole, thousandths-nought}
 use lib.Dec.{lit<}
 use native.Mathlib.Nat.{one-mul}

@@ -1,13 +1,9 @@
 use borrow.Author.Needs.{needs}
 use Rattle.text.proofs.spell.Statement.{statement}
 use Rattle.text.proofs.spell.Tie as tie
-use Rattle.text.proofs.spell.Reads as reads
-use Rattle.text.proofs.spell.Lts as lts
-use Rattle.text.proofs.digit.Reads as digit-reads
-use Rattle.text.proofs.put.Reads as put-reads
 use Prim.Native.Nat.{ℕ, zero, suc, _+_, _-_, _*_, _/_, _%_, _≤_, _<_}
 use mathlib.Core.Path.{_≡_, refl, sym, ap, ap₂, _∙_}
-use mathlib.Core.List.{List, [], _∷_}
+use mathlib.Core.List.{List}
 use native.Mathlib.Omega.{arith}
 use native.Mathlib.Nat.{mod-lt, mul-pos, div-div-eq-div-mul, div-lt-iff-lt-mul, mul-le-mul}
 use lib.ListN.{length, set, length-set}

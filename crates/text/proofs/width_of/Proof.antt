@@ -2,9 +2,7 @@
 use borrow.Author.Needs.{needs}
 use Rattle.text.proofs.width_of.Statement.{statement}
 use Rattle.text.proofs.width_of.Tie as tie
-use Rattle.text.proofs.width_of.Reads as reads
-use Rattle.text.proofs.width_of.Lts as lts
-use Prim.Native.Nat.{ℕ, suc, _+_, _-_, _/_, _^_, _≤_, _<_}
+use Prim.Native.Nat.{ℕ, _+_, _-_, _/_, _^_, _≤_, _<_}
 use mathlib.Core.Path.{_≡_}
 use native.Mathlib.Omega.{arith}
 use Rattle.text.specs.Digits.{needed}

@@ -4,13 +4,6 @@ use lib.ListN.{length}
 use borrow.Author.Needs.{needs}
 use Rattle.vectors.proofs.put_recording.Statement.{statement}
 use Rattle.vectors.proofs.put_recording.Tie as tie
-use Rattle.vectors.proofs.put_recording.Reads as reads
-use Rattle.vectors.proofs.put_recording.Lts as lts
-use Rattle.division.proofs.message_part.Reads as message-part-reads
-use Rattle.division.proofs.next_message.Reads as next-message-reads
-use Rattle.std.proofs.num.wrapping_add_usize.Reads as wrapping-add-usize-reads
-use Rattle.vectors.proofs.put_count.Reads as put-count-reads
-use Rattle.vectors.proofs.put_given.Reads as put-given-reads
 
 abbrev Inv-loop : tie.InvT-loop
 Inv-loop text₀ at recording next₀ start₀ turns₀ t12 text next start turns = length text ≡ length text₀

@@ -2,7 +2,6 @@
 use mathlib.Core.Path.{ap, _∙_}
 use mir.Syntax.{w32, w64}
 use mir.ValLaws.{toZ-ofZ}
-use Rattle.octets.specs.Signed.{signedOf, half}
 use Rattle.words.specs.Words.{lowBits}
 use borrow.Author.Needs.{needs}
 use Rattle.words.proofs.observation_in.Statement.{statement}
