@@ -1,7 +1,8 @@
 #!/bin/sh
 # Every public function of a library has its theorem NAME-determined in its own crate's proofs/Determined.antt, stated of that function's own contract,
 # or, for an entry over a lent struct, of the claim NAME-learnt that is read off its own clauses there; or a line `CRATE::NAME: why` under the exceptions
-# of docs/PROMISES.md. And docs/PROMISES.md names it in its crate's row. This reads text only: that the theorems hold is rt's to say.
+# of docs/PROMISES.md. And docs/PROMISES.md names it in its crate's row, and demand 1's file says that it asks nothing, but for the programs' own two.
+# This reads text only: that the theorems hold is rt's to say.
 set -u
 root=$(cd "$(dirname "$0")/.." && pwd -P)
 cd "$root" || exit 2
@@ -23,6 +24,10 @@ for crate in $(sed 's/#.*//; s/:.*//' crates.txt); do
         fi
         if ! grep -Eq "^\| \`$crate\` \|.*(\`|::)$name\`" docs/PROMISES.md; then
             echo "determined: docs/PROMISES.md does not name $crate::$name"
+            failed=1
+        fi
+        if [ "$crate" != report ] && ! grep -Eq "(AsksNothing [a-z]+\.([A-Za-z]+\.)?$name\.ended|$crate\.$name\.clauses .* \.requires)" crates/promises/proofs/DemandOne.antt; then
+            echo "determined: crates/promises/proofs/DemandOne.antt does not say that $crate::$name asks nothing"
             failed=1
         fi
     done

@@ -34,6 +34,9 @@ use Rattle.track.proofs as track
 use Rattle.front.proofs as front
 use Rattle.division.proofs as division
 use Rattle.stream.proofs as stream
+use Rattle.words.proofs as words
+use Rattle.text.proofs as text
+use Rattle.lines.proofs as lines
 use Rattle.board.proofs as board
 
 -- ---- it refuses by 01's numbers: each under its condition, in the order of the tests, and 0 where none holds (promises/specs/Numbers.antt)
@@ -157,6 +160,33 @@ pub parts-ask-nothing :
     × AsksNothing front.claims.ended front.claims.Reads.Asked
     × AsksNothing division.walk.ended division.walk.Reads.Asked
 parts-ask-nothing = ((λ κs a. tt), (λ κs a. tt), (λ κs a. tt), (λ κs a. tt), (λ κs a. tt), (λ κs a. tt))
+
+pub words-ask-nothing :
+    AsksNothing words.form_in.ended words.form_in.Reads.Asked
+    × AsksNothing words.header_in.ended words.header_in.Reads.Asked
+    × AsksNothing words.observation_in.ended words.observation_in.Reads.Asked
+    × AsksNothing words.reading_words.ended words.reading_words.Reads.Asked
+    × AsksNothing words.written_words.ended words.written_words.Reads.Asked
+    × AsksNothing words.found_words.ended words.found_words.Reads.Asked
+    × AsksNothing words.answer_words.ended words.answer_words.Reads.Asked
+    × AsksNothing words.phase_words.ended words.phase_words.Reads.Asked
+words-ask-nothing =
+    ((λ κs a. tt), (λ κs a. tt), (λ κs a. tt), (λ κs a. tt), (λ κs a. tt), (λ κs a. tt), (λ κs a. tt), (λ κs a. tt))
+
+pub text-asks-nothing :
+    AsksNothing text.put.ended text.put.Reads.Asked
+    × AsksNothing text.put_all.ended text.put_all.Reads.Asked
+    × AsksNothing text.front.ended text.front.Reads.Asked
+    × AsksNothing text.put_decimal.ended text.put_decimal.Reads.Asked
+    × AsksNothing text.put_hex.ended text.put_hex.Reads.Asked
+    × AsksNothing text.put_metres.ended text.put_metres.Reads.Asked
+    × AsksNothing text.put_hertz.ended text.put_hertz.Reads.Asked
+    × AsksNothing text.put_cycles.ended text.put_cycles.Reads.Asked
+    × AsksNothing lines.put_line.ended lines.put_line.Reads.Asked
+    × AsksNothing lines.put_end.ended lines.put_end.Reads.Asked
+    × AsksNothing lines.put_rows.ended lines.put_rows.Reads.Asked
+text-asks-nothing =
+    ((λ κs a. tt), (λ κs a. tt), (λ κs a. tt), (λ κs a. tt), (λ κs a. tt), (λ κs a. tt), (λ κs a. tt), (λ κs a. tt), (λ κs a. tt), (λ κs a. tt), (λ κs a. tt))
 
 -- the two over a lent state are walked by hand and so have no `Reads`: their `requires` is empty in every model of the logic
 pub cs-feed-asks-nothing : (w : World) (κs : Lfts 4) (a : Args board.cs_feed.signature κs) → board.cs_feed.clauses (w .𝓤) (w .H) (w .𝓖 .A) (w .𝓜 .mem) (w .𝓡 .run) κs a .requires tt ≡ emp (w .𝓤)
