@@ -5,6 +5,7 @@ use Rattle.text.specs.Digits.{digits, decimal, metres, hertz}
 use Rattle.text.specs.Double.{nonfinite, cycles}
 use Rattle.units.specs.Units.{lockMillis, millisIn}
 use Rattle.macm.specs.Read.{readOf}
+use Rattle.macm.specs.Answers.{countIn}
 use Rattle.macm.specs.declared.Form.{Form}
 use Rattle.macm.specs.declared.Form.the-variants.{New, Old}
 use Rattle.macm.specs.declared.Header.{Header}
@@ -70,11 +71,6 @@ rowText position (HeaderOnly h) = []
 rowText position (Observed h count o) = observationText position h o
 
 -- the rows of a message m: of its first k observations, and of all
-abbrev pub countIn : Reading → ℕ
-countIn (Refused r) = 0
-countIn (HeaderOnly h) = 0
-countIn (Observed h count o) = count
-
 unfoldable pub rowsUpTo : ℕ → ℕ → List ℕ → List ℕ
 rowsUpTo zero position m = []
 rowsUpTo (suc k) position m = rowsUpTo k position m ++ rowText position (readOf m k)

@@ -10,8 +10,9 @@ use track::Polarity;
 ghost use mathlib.Core.Path.{_≡_};
 ghost use Prim.Native.Nat.{_≤_};
 ghost use Rattle.text.specs.Put.{Puts};
+ghost use Rattle.macm.specs.Answers.{countIn};
 ghost use Rattle.lines.specs.Listing.{numberText, formText, messageText, lineText, endText};
-ghost use Rattle.lines.specs.Rows.{signalText, headText, rangeText, phaseText, polarityText, conditionText, shownText, rateText, observationText, rowText, countIn, rowsText};
+ghost use Rattle.lines.specs.Rows.{signalText, headText, rangeText, phaseText, polarityText, conditionText, shownText, rateText, observationText, rowText, rowsText};
 
 // ---- the listing
 

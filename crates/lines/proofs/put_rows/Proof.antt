@@ -8,7 +8,8 @@ use native.Mathlib.Numerals.{add-one}
 use Rattle.macm.specs.Read.{readOf}
 use Rattle.text.specs.Put.{Puts}
 use Rattle.text.proofs.PutLaws.{puts-none, puts-join, puts-length}
-use Rattle.lines.specs.Rows.{countIn, rowsUpTo}
+use Rattle.macm.specs.Answers.{countIn}
+use Rattle.lines.specs.Rows.{rowsUpTo}
 
 -- `lines::put_rows` meets its contract: after each turn the rows up to its index are put. Assumes nothing.
 
