@@ -14,7 +14,7 @@ use Rattle.stream.proofs.ScanLaws.{scan-append}
 abbrev pub Waits : List ℕ → ℕ → Type 0
 Waits h k = (ys : List ℕ) → length (h ++ ys) < k → look (h ++ ys) ≡ unsettled
 
-scan-open : (xs : List ℕ) (g : ℕ) → look xs ≡ unsettled → scan false xs g ≡ stop g xs
+pub scan-open : (xs : List ℕ) (g : ℕ) → look xs ≡ unsettled → scan false xs g ≡ stop g xs
 unfolding scan scanned seen settle
 scan-open [] g e = refl
 scan-open (x ∷ xs) g e = rw e

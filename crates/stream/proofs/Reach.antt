@@ -27,7 +27,7 @@ use Rattle.division.proofs.WalkSteps.{walk-at}
 use Rattle.stream.specs.Scan.{settle, seen, Scan, got, stop, scanned, scan}
 use Rattle.stream.specs.Feed.{Fed, given, more, feed}
 use Rattle.stream.proofs.ScanLaws.{scan-append, ScanFact, scan-fact}
-use Rattle.stream.proofs.FeedLaws.{settled, FedFact, feed-fewest}
+use Rattle.stream.proofs.FeedLaws.{scan-open, settled, FedFact, feed-fewest}
 
 -- ---- what a walk over the piece p says of a feed of it
 pub record FedMessage (p : List ℕ) (k n t : ℕ) : Type 0 where
@@ -169,11 +169,6 @@ scan-message k xs g n l e =
     let d : drop k xs ≡ getD xs k 0 ∷ drop (suc k) xs = drop-cons xs k 0 l in
     let z : look (getD xs k 0 ∷ drop (suc k) xs) ≡ message n = rw d at e in
     rw (d, z)
-
-scan-open : (xs : List ℕ) (g : ℕ) → look xs ≡ unsettled → scan false xs g ≡ stop g xs
-unfolding scan scanned seen settle
-scan-open [] g e = refl
-scan-open (x ∷ xs) g e = rw e
 
 begins : (p : List ℕ) → Reached p 0 0
 begins p = record { within = omega arith; upto = omega arith; near = omega arith; all = λ g. rw (add-zero g); part = λ g j a b c. rw (add-zero g); late = λ g j l. absurd (omega arith) }

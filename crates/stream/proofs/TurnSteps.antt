@@ -46,6 +46,10 @@ unfolding needBy
 need-long k = refl
 
 -- ---- the unsettled position goes to the front, and bytes of the piece behind it
+none : (p : List ℕ) → length p ≡ 0 → p ≡ []
+none [] e = refl
+none (x ∷ p) e = absurd (omega arith)
+
 module _ (h g k : ℕ) (w : List ℕ) (o : Opened h g k w) where
   shifted : List ℕ
   shifted = paste w 0 (drop k w) (h - k)
@@ -77,19 +81,11 @@ module _ (h g k : ℕ) (w : List ℕ) (o : Opened h g k w) where
 
   pub none-left : h - k ≡ 0 → TurnedEmpty h g w (g + k) w
   unfolding opened
-  none-left z = record { stops = o .stops ∙ ap (stop (g + k)) (empty (drop k (take h w)) (length-opened ∙ z)); same = refl; sums = omega arith }
-    where
-      empty : (p : List ℕ) → length p ≡ 0 → p ≡ []
-      empty [] e = refl
-      empty (x ∷ p) e = absurd (omega arith)
+  none-left z = record { stops = o .stops ∙ ap (stop (g + k)) (none (drop k (take h w)) (length-opened ∙ z)); same = refl; sums = omega arith }
 
   no-more : (p : List ℕ) → length p ≡ 0 → TurnedMore h g w p (h - k) (g + k) shifted
   unfolding opened
-  no-more p e = record { none = empty p e; stops = rw held (o .stops); same = length-shifted; room = omega arith }
-    where
-      empty : (p : List ℕ) → length p ≡ 0 → p ≡ []
-      empty [] e = refl
-      empty (x ∷ p) e = absurd (omega arith)
+  no-more p e = record { none = none p e; stops = rw held (o .stops); same = length-shifted; room = omega arith }
 
   more-taken : (p : List ℕ) (c : ℕ) → 0 < c → c ≤ length p → c ≤ need opened - (h - k)
       → TurnedOn h g w p (h - k + c) (g + k) c (paste shifted (h - k) (take c p) (length (take c p)))
