@@ -21,16 +21,16 @@ use Rattle.track.specs.declared.Condition.the-variants.{Flagged, MakerDefined}
 use Rattle.track.specs.Range.{rangeOf}
 use Rattle.track.specs.Condition.{conditionOf}
 use Rattle.track.specs.Shown.{phaseOf}
-use Rattle.lines.specs.Listing.{numberText}
+use Rattle.lines.specs.Listing.{numberText, formText}
 
--- "v2 " and TYPE, or "v1 - "
+-- TYPE, or "- "
 abbrev pub signalText : Form → List ℕ
-signalText (New signal tfom) = (118 ∷ 50 ∷ 32 ∷ []) ++ numberText signal
-signalText (Old version) = 118 ∷ 49 ∷ 32 ∷ 45 ∷ 32 ∷ []
+signalText (New signal tfom) = numberText signal
+signalText (Old version) = 45 ∷ 32 ∷ []
 
 -- position of the message, time, form, TYPE
 abbrev pub headText : ℕ → Header → List ℕ
-headText position h = numberText position ++ (numberText (h .time) ++ signalText (h .form))
+headText position h = numberText position ++ (numberText (h .time) ++ (formText (h .form) ++ signalText (h .form)))
 
 -- SID, C/N0, CONDITION, range in metres
 abbrev pub rangeText : Observation → List ℕ

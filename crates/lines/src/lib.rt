@@ -82,16 +82,13 @@ pub fn put_end(out: &mut [u8], at: usize, bytes: u64, messages: u64, gap: u64) -
 
 // ---- an observation's row
 
-// The form and TYPE, which the old form does not have.
+// TYPE, which the old form does not have.
 fn put_signal(out: &mut [u8], at: usize, form: Form) -> usize
     ensures { λ r. ⌜ Puts (now (out .entry)) at (signalText form) r (now (out .exit)) ⌝ }
 {
     match form {
-        Form::New { signal, tfom: _ } => {
-            let next = text::put_all(out, at, b"v2 ");
-            put_number(out, next, signal as u64)
-        }
-        Form::Old { version: _ } => text::put_all(out, at, b"v1 - "),
+        Form::New { signal, tfom: _ } => put_number(out, at, signal as u64),
+        Form::Old { version: _ } => text::put_all(out, at, b"- "),
     }
 }
 
@@ -101,6 +98,7 @@ fn put_head(out: &mut [u8], at: usize, position: u64, header: Header) -> usize
     let form = header.form;
     let next = put_number(out, at, position);
     let next = put_number(out, next, header.time as u64);
+    let next = put_form(out, next, form);
     put_signal(out, next, form)
 }
 

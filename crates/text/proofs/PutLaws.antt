@@ -10,13 +10,13 @@ use borrow.Author.Tests.{lt-ltb, le-ltb, ltb-true, ltb-false}
 use lib.Dec.{ltb}
 use lib.ListN.{length, set, length-set}
 use lib.Seq.{set-out, set-comm}
-use Rattle.text.specs.Put.{nextOf, written, after, Puts}
+use Rattle.text.specs.Put.{behind, written, after, Puts}
 
 -- the buffer keeps its length
 pub length-written : (out : List ℕ) (at : ℕ) (t : List ℕ) → length (written out at t) ≡ length out
 unfolding written
 length-written out at [] = refl
-length-written out at (b ∷ t) = length-written (set out at b) (nextOf (length out) at) t ∙ length-set out at b
+length-written out at (b ∷ t) = length-written (set out at b) (behind (length out) at) t ∙ length-set out at b
 
 pub puts-length : {out : List ℕ} {at : ℕ} {t : List ℕ} {at′ : ℕ} {out′ : List ℕ} → Puts out at t at′ out′ → length out′ ≡ length out
 puts-length {out} {at} {t} p = ap length (p .bytes) ∙ length-written out at t
@@ -31,13 +31,13 @@ pub written-join : (out : List ℕ) (at : ℕ) (s t : List ℕ) → written (wri
 unfolding written after
 written-join out at [] t = refl
 written-join out at (b ∷ s) t =
-    ap (λ (n : ℕ). written (written (set out at b) (nextOf (length out) at) s) (after n (nextOf (length out) at) s) t) (sym (length-set out at b))
-    ∙ written-join (set out at b) (nextOf (length out) at) s t
+    ap (λ (n : ℕ). written (written (set out at b) (behind (length out) at) s) (after n (behind (length out) at) s) t) (sym (length-set out at b))
+    ∙ written-join (set out at b) (behind (length out) at) s t
 
 after-join : (len at : ℕ) (s t : List ℕ) → after len (after len at s) t ≡ after len at (s ++ t)
 unfolding after
 after-join len at [] t = refl
-after-join len at (b ∷ s) t = after-join len (nextOf len at) s t
+after-join len at (b ∷ s) t = after-join len (behind len at) s t
 
 pub puts-join :
     {out : List ℕ} {at : ℕ} {s : List ℕ} {at₁ : ℕ} {out₁ : List ℕ} {t : List ℕ} {at₂ : ℕ} {out₂ : List ℕ} →
@@ -50,10 +50,10 @@ puts-join {out} {at} {s} {t = t} p q = record {
 }
 
 -- the place behind a text: where it has room, where it is cut off, and past the end
-next-in : (len at : ℕ) → at < len → nextOf len at ≡ suc at
+next-in : (len at : ℕ) → at < len → behind len at ≡ suc at
 next-in len at h = rw (lt-ltb at len h) (add-one at)
 
-next-le : (len at : ℕ) → nextOf len at ≤ at + 1
+next-le : (len at : ℕ) → behind len at ≤ at + 1
 next-le len at = go (ltb at len)
   where
     go : (c : Bool) → cond c (at + 1) at ≤ at + 1
@@ -89,5 +89,5 @@ pub written-set : (out : List ℕ) (at : ℕ) (t : List ℕ) (j b : ℕ) → at 
 unfolding written
 written-set out at [] j b h = refl
 written-set out at (x ∷ t) j b h =
-    let l : nextOf (length out) at ≤ at + 1 = next-le (length out) at in
-    rw (length-set out j b, set-comm out j at b x (λ e. omega arith)) (written-set (set out at x) (nextOf (length out) at) t j b (omega arith))
+    let l : behind (length out) at ≤ at + 1 = next-le (length out) at in
+    rw (length-set out j b, set-comm out j at b x (λ e. omega arith)) (written-set (set out at x) (behind (length out) at) t j b (omega arith))

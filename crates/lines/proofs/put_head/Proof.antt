@@ -1,8 +1,8 @@
 -- `lines::put_head` meets its contract. Assumes nothing.
+use Rattle.text.proofs.PutLaws.{puts-join}
 use borrow.Author.Needs.{needs}
 use Rattle.lines.proofs.put_head.Statement.{statement}
 use Rattle.lines.proofs.put_head.Tie as tie
-use Rattle.text.proofs.PutLaws.{puts-join}
 
 put-number-requires : tie.Need-put-number-requires
 put-number-requires c κs = search needs
@@ -13,6 +13,9 @@ cast-put-number c = search needs
 put-number-requires-2 : tie.Need-put-number-requires-2
 put-number-requires-2 c κs = search needs
 
+put-form-requires : tie.Need-put-form-requires
+put-form-requires c κs = search needs
+
 put-signal-requires : tie.Need-put-signal-requires
 put-signal-requires c κs = search needs
 
@@ -20,7 +23,7 @@ same-length : tie.Need-same-length
 same-length c = search needs
 
 returns : tie.Need-returns
-returns c = puts-join (c .before .before .before .before .before .before .before .before .before .before .before .put-number .ensures) (puts-join (c .before .before .before .before .before .before .put-number2 .ensures) (c .before .before .put-signal .ensures))
+returns c = puts-join (c .before .before .before .before .before .before .before .before .before .before .before .before .before .before .before .put-number .ensures) (puts-join (c .before .before .before .before .before .before .before .before .before .before .put-number2 .ensures) (puts-join (c .before .before .before .before .before .before .put-form .ensures) (c .before .before .put-signal .ensures)))
 
 pub put-head-spec : {M : Type 1} → statement M
 put-head-spec =
@@ -29,6 +32,7 @@ put-head-spec =
     put-number-requires
     cast-put-number
     put-number-requires-2
+    put-form-requires
     put-signal-requires
     same-length
     returns)

@@ -2,16 +2,9 @@
 use borrow.Author.Needs.{needs}
 use Rattle.lines.proofs.put_signal.Statement.{statement}
 use Rattle.lines.proofs.put_signal.Tie as tie
-use Rattle.text.proofs.PutLaws.{puts-join}
 
 enum-known-form : tie.Need-enum-known-form
 enum-known-form c = search needs
-
-slice-aggregate-put-all : tie.Need-slice-aggregate-put-all
-slice-aggregate-put-all c = search needs
-
-put-all-requires : tie.Need-put-all-requires
-put-all-requires c κs = search needs
 
 cast-put-number : tie.Need-cast-put-number
 cast-put-number c = search needs
@@ -22,36 +15,34 @@ put-number-requires c κs = search needs
 enum-told : tie.Need-enum-told
 enum-told c = search needs
 
-slice-aggregate-put-all-2 : tie.Need-slice-aggregate-put-all-2
-slice-aggregate-put-all-2 c = search needs
+slice-aggregate-put-all : tie.Need-slice-aggregate-put-all
+slice-aggregate-put-all c = search needs
 
-put-all-requires-2 : tie.Need-put-all-requires-2
-put-all-requires-2 c κs = search needs
+put-all-requires : tie.Need-put-all-requires
+put-all-requires c κs = search needs
 
 same-length : tie.Need-same-length
 same-length c = search needs
 
 returns : tie.Need-returns
-returns c = rw (c .before .before .before .before .before .before .before .before .before .before .form .given .1) (puts-join (c .before .before .before .before .before .before .put-all .ensures) (c .before .before .put-number .ensures))
+returns c = rw (c .before .before .before .before .before .form .given .1) (c .before .before .put-number .ensures)
 
 same-length-2 : tie.Need-same-length-2
 same-length-2 c = search needs
 
 returns-2 : tie.Need-returns-2
-returns-2 c = rw (c .before .before .before .before .before .enum-told .given .1) (c .before .before .put-all2 .ensures)
+returns-2 c = rw (c .before .before .before .before .before .enum-told .given .1) (c .before .before .put-all .ensures)
 
 pub put-signal-spec : {M : Type 1} → statement M
 put-signal-spec =
     tie.close
     (tie.spec
     enum-known-form
-    slice-aggregate-put-all
-    put-all-requires
     cast-put-number
     put-number-requires
     enum-told
-    slice-aggregate-put-all-2
-    put-all-requires-2
+    slice-aggregate-put-all
+    put-all-requires
     same-length
     returns
     same-length-2
