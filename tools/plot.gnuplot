@@ -1,4 +1,8 @@
-# Range and rate of each satellite over time. `points` has TYPE/SID, seconds, kilometres and hertz on each line; `satellites` has the TYPE/SID of all.
+# Range and rate of each satellite over time: gnuplot -c plot.gnuplot POINTS PICTURE SATELLITES. POINTS has TYPE/SID, seconds, kilometres and hertz on
+# each line, SATELLITES the TYPE/SID of all.
+points = ARG1
+picture = ARG2
+satellites = ARG3
 set terminal pngcairo size 1200, 900
 set output picture
 set multiplot layout 2, 1
