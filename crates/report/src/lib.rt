@@ -42,6 +42,9 @@ fn keep(buffer: &mut [u8], from: usize, end: usize) -> usize {
     if end < from {
         return 0;
     }
+    if from == 0 {
+        return end;
+    }
     let count = end - from;
     let mut i = 0;
     while i < count {

@@ -1,3 +1,4 @@
+-- `lines::put_rate` meets its contract. Assumes nothing.
 use borrow.Author.Needs.{needs}
 use Rattle.lines.proofs.put_rate.Statement.{statement}
 use Rattle.lines.proofs.put_rate.Tie as tie
@@ -6,8 +7,6 @@ use mir.Syntax.{w32}
 use mir.ValLaws.{toZ-ofZ}
 use mathlib.Core.Path.{_∙_, ap}
 use Rattle.units.specs.Units.{millisIn}
-
--- `lines::put_rate` meets its contract. Assumes nothing.
 
 since-lock-requires : tie.Need-since-lock-requires
 since-lock-requires c κs = search needs

@@ -1,3 +1,4 @@
+-- `lines::put_rows` meets its contract: after each turn the rows up to its index are put. Assumes nothing.
 use borrow.Author.Needs.{needs}
 use Rattle.lines.proofs.put_rows.Statement.{statement}
 use Rattle.lines.proofs.put_rows.Tie as tie
@@ -10,8 +11,6 @@ use Rattle.text.specs.Put.{Puts}
 use Rattle.text.proofs.PutLaws.{puts-none, puts-join, puts-length}
 use Rattle.macm.specs.Answers.{countIn}
 use Rattle.lines.specs.Rows.{rowsUpTo}
-
--- `lines::put_rows` meets its contract: after each turn the rows up to its index are put. Assumes nothing.
 
 abbrev Inv-loop : tie.InvT-loop
 Inv-loop out₀ at position message count next₀ index₀ out next index = (index ≤ count) × (count ≤ 255) × (count ≡ countIn (readOf message 0)) × Puts out₀ at (rowsUpTo index position message) next out

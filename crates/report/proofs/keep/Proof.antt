@@ -18,6 +18,9 @@ returns c = search needs
 returns-2 : tie.Need-returns-2 Inv-loop μ-loop
 returns-2 c = search needs
 
+returns-3 : tie.Need-returns-3 Inv-loop μ-loop
+returns-3 c = search needs
+
 loop-holds : tie.Need-loop-holds Inv-loop μ-loop
 loop-holds c = search needs
 
@@ -42,8 +45,8 @@ loop-again c = search needs
 same-length : tie.Need-same-length Inv-loop μ-loop
 same-length c = search needs
 
-returns-3 : tie.Need-returns-3 Inv-loop μ-loop
-returns-3 c = search needs
+returns-4 : tie.Need-returns-4 Inv-loop μ-loop
+returns-4 c = search needs
 
 pub keep-spec : {M : Type 1} → statement M
 keep-spec =
@@ -53,6 +56,7 @@ keep-spec =
     μ-loop
     returns
     returns-2
+    returns-3
     loop-holds
     add-buffer
     slice-read-buffer
@@ -61,4 +65,4 @@ keep-spec =
     loop-less
     loop-again
     same-length
-    returns-3)
+    returns-4)

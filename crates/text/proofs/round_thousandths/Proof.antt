@@ -1,3 +1,4 @@
+-- `text::round_thousandths` meets its contract. Assumes nothing.
 use borrow.Author.Needs.{needs}
 use Rattle.text.proofs.round_thousandths.Statement.{statement}
 use Rattle.text.proofs.round_thousandths.Tie as tie
@@ -8,8 +9,6 @@ use lib.Pow.{shl-exact, pow-mono}
 use Rattle.text.proofs.Rounding.{thousandths-shift, thousandths-whole, thousandths-nought}
 use lib.Dec.{lit<}
 use native.Mathlib.Nat.{one-mul}
-
--- `text::round_thousandths` meets its contract. Assumes nothing.
 
 half-is : (places : ℕ) → places < 64 → 1 * 2 ^ places % 18446744073709551616 ≡ 2 ^ places
 half-is places h = shl-exact {a = 1} 1 places 64 (lit< tt) (omega arith) ∙ one-mul (2 ^ places)
