@@ -20,8 +20,7 @@ said=$(./cablesound list samples 2>&1) && fail "list of a folder succeeds"
 [ "$said" = 'cablesound: this is a folder: samples' ] || fail "list of a folder says: $said"
 (cd samples && ../cablesound list sortie.macm) | cmp -s - samples/sortie.listing || fail "list takes a name from another folder than the caller's"
 said=$(cd samples && ../cablesound list samples/sortie.macm 2>&1) && fail "list takes a name from the project's folder"
-rm -f target/pipe && mkfifo target/pipe && { cat samples/sortie.macm >target/pipe & }
-./cablesound list target/pipe | cmp -s - samples/sortie.listing || fail "list of a pipe"
+cat samples/sortie.macm | ./cablesound list /dev/stdin | cmp -s - samples/sortie.listing || fail "list of a pipe"
 rm -f target/sortie.png
 said=$(./cablesound plot samples/sortie.macm target/sortie.png 2>&1) || case $said in
 *'no gnuplot on this machine: install it'*) ;;
