@@ -2,7 +2,6 @@
 use macm::Form;
 use octets::Fit;
 ghost use mathlib.Core.Path.{_≡_};
-ghost use Prim.Native.Nat.{_≤_};
 ghost use Rattle.front.specs.Claim.{claim, counted};
 
 // Nothing that a message begins with; nothing to say with fewer bytes than so many; a message of so many bytes.

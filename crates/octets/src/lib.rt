@@ -2,9 +2,9 @@
 // Every function here takes all inputs; what each answers is a definition of specs/.
 ghost use mathlib.Core.Path.{_≡_};
 ghost use mathlib.Core.Logic.{_⊎_};
-ghost use Prim.Native.Nat.{ℕ, _+_, _*_, _<_, _≤_, _%_, _^_};
+ghost use Prim.Native.Nat.{_*_, _<_, _≤_, _%_, _^_};
 ghost use lib.IntN.{negsuc};
-ghost use lib.ListN.{length, take, drop, replicate};
+ghost use lib.ListN.{length, take, replicate};
 ghost use lib.Signed.{mag};
 ghost use Rattle.octets.specs.Begins.{fit, begins};
 ghost use Rattle.octets.specs.Checksum.{checksumOf};
