@@ -117,15 +117,17 @@ read-table m j = go (verdict m) refl
   where
     go : (v : Verdict) → verdict m ≡ v → ReadTable m j (readNumber (readBy v m j))
     go (Refused r) e = inl (ap checkNumber (sym e), positive r)
-    go (Accepted f k) e = inr (f, k, e, test (ltb j k) refl (eqb k 0) refl (eqb j 0) refl)
+    go (Accepted f k) e = inr (f, k, e, test (ltb j k) refl (eqb j 0) refl)
       where
-        test : (a : Bool) → ltb j k ≡ a → (b : Bool) → eqb k 0 ≡ b → (c : Bool) → eqb j 0 ≡ c
-            → let i = readNumber (cond a (Observed (headerOf f m) k (observationOf (part (observationAt f j) 24 m))) (cond b (cond c (HeaderOnly (headerOf f m)) (NotRead NoObservation)) (NotRead NoObservation))) in
+        test : (a : Bool) → ltb j k ≡ a → (b : Bool) → eqb j 0 ≡ b
+            → let i = readNumber (cond a (Observed (headerOf f m) k (observationOf (part (observationAt f j) 24 m))) (cond b (HeaderOnly (headerOf f m)) (NotRead NoObservation))) in
             ((i ≡ 5) × (k ≤ j) × ((j ≡ 0) × (k ≡ 0) → ⊥)) ⊎ ((i ≡ 0) × ((j < k) ⊎ ((j ≡ 0) × (k ≡ 0))))
-        test true p b q c r = inr (refl, inl (ltb-true j k p))
-        test false p true q true r = inr (refl, inr (eqb-true j 0 r, eqb-true k 0 q))
-        test false p true q false r = inl (refl, ltb-false j k p, λ z. eqb-false j 0 r (z .0))
-        test false p false q c r = inl (refl, ltb-false j k p, λ z. eqb-false k 0 q (z .1))
+        test true p b q = inr (refl, inl (ltb-true j k p))
+        test false p true q =
+            let far = ltb-false j k p in
+            let first = eqb-true j 0 q in
+            inr (refl, inr (first, omega arith))
+        test false p false q = inl (refl, ltb-false j k p, λ z. eqb-false j 0 q (z .0))
 
 pub set-table : (m : List ℕ) (j : ℕ) → SetTable m j (writtenNumber (setOf m j))
 unfolding setOf setBy
