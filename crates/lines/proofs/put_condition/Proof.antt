@@ -12,8 +12,11 @@ put-polarity-requires c κs = search needs
 enum-told : tie.Need-enum-told
 enum-told c = search needs
 
-put-requires : tie.Need-put-requires
-put-requires c κs = search needs
+slice-aggregate-put-all : tie.Need-slice-aggregate-put-all
+slice-aggregate-put-all c = search needs
+
+put-all-requires : tie.Need-put-all-requires
+put-all-requires c κs = search needs
 
 same-length : tie.Need-same-length
 same-length c = search needs
@@ -25,7 +28,7 @@ same-length-2 : tie.Need-same-length-2
 same-length-2 c = search needs
 
 returns-2 : tie.Need-returns-2
-returns-2 c = rw (c .before .before .before .before .enum-told .given .1) (c .before .before .put .ensures)
+returns-2 c = rw (c .before .before .before .before .before .enum-told .given .1) (c .before .before .put-all .ensures)
 
 pub put-condition-spec : {M : Type 1} → statement M
 put-condition-spec =
@@ -34,7 +37,8 @@ put-condition-spec =
     enum-known-condition
     put-polarity-requires
     enum-told
-    put-requires
+    slice-aggregate-put-all
+    put-all-requires
     same-length
     returns
     same-length-2

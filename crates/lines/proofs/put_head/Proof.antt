@@ -1,8 +1,8 @@
 -- `lines::put_head` meets its contract. Assumes nothing.
-use Rattle.text.proofs.PutLaws.{puts-join}
 use borrow.Author.Needs.{needs}
 use Rattle.lines.proofs.put_head.Statement.{statement}
 use Rattle.lines.proofs.put_head.Tie as tie
+use Rattle.text.proofs.PutLaws.{puts-join}
 
 put-number-requires : tie.Need-put-number-requires
 put-number-requires c κs = search needs

@@ -2,7 +2,6 @@
 use borrow.Author.Needs.{needs}
 use Rattle.lines.proofs.put_polarity.Statement.{statement}
 use Rattle.lines.proofs.put_polarity.Tie as tie
-use Rattle.text.proofs.PutLaws.{puts-join}
 
 enum-told : tie.Need-enum-told
 enum-told c = search needs
@@ -34,17 +33,14 @@ put-all-requires-3 c κs = search needs
 enum-known-polarity : tie.Need-enum-known-polarity
 enum-known-polarity c = search needs
 
-slice-aggregate-put-all-4 : tie.Need-slice-aggregate-put-all-4
-slice-aggregate-put-all-4 c = search needs
+slice-aggregate-put-count : tie.Need-slice-aggregate-put-count
+slice-aggregate-put-count c = search needs
 
-put-all-requires-4 : tie.Need-put-all-requires-4
-put-all-requires-4 c κs = search needs
+cast-put-count : tie.Need-cast-put-count
+cast-put-count c = search needs
 
-cast-put-decimal : tie.Need-cast-put-decimal
-cast-put-decimal c = search needs
-
-put-decimal-requires : tie.Need-put-decimal-requires
-put-decimal-requires c κs = search needs
+put-count-requires : tie.Need-put-count-requires
+put-count-requires c κs = search needs
 
 same-length : tie.Need-same-length
 same-length c = search needs
@@ -68,7 +64,7 @@ same-length-4 : tie.Need-same-length-4
 same-length-4 c = search needs
 
 returns-4 : tie.Need-returns-4
-returns-4 c = rw (c .before .before .before .before .before .before .before .before .before .before .polarity .given .1) (puts-join (c .before .before .before .before .before .before .put-all4 .ensures) (c .before .before .put-decimal .ensures))
+returns-4 c = rw (c .before .before .before .before .before .before .polarity .given .1) (c .before .before .put-count .ensures)
 
 pub put-polarity-spec : {M : Type 1} → statement M
 put-polarity-spec =
@@ -84,10 +80,9 @@ put-polarity-spec =
     slice-aggregate-put-all-3
     put-all-requires-3
     enum-known-polarity
-    slice-aggregate-put-all-4
-    put-all-requires-4
-    cast-put-decimal
-    put-decimal-requires
+    slice-aggregate-put-count
+    cast-put-count
+    put-count-requires
     same-length
     returns
     same-length-2

@@ -8,44 +8,40 @@ use mir.ValLaws.{toZ-ofZ}
 use mathlib.Core.Path.{_∙_, ap}
 use Rattle.units.specs.Units.{millisIn}
 
-since-lock-requires : tie.Need-since-lock-requires
-since-lock-requires c κs = search needs
-
 put-hertz-requires : tie.Need-put-hertz-requires
 put-hertz-requires c κs = search needs
 
 put-requires : tie.Need-put-requires
 put-requires c κs = search needs
 
+since-lock-requires : tie.Need-since-lock-requires
+since-lock-requires c κs = search needs
+
 number-requires : tie.Need-number-requires
 number-requires c κs = search needs
 
-put-decimal-requires : tie.Need-put-decimal-requires
-put-decimal-requires c κs = search needs
-
-put-requires-2 : tie.Need-put-requires-2
-put-requires-2 c κs = search needs
+put-number-requires : tie.Need-put-number-requires
+put-number-requires c κs = search needs
 
 same-length : tie.Need-same-length
 same-length c = search needs
 
 returns : tie.Need-returns
 returns c =
-    let rate = c .before .before .before .before .before .before .before .before .before .before .before .before .before .before .before .before .before .before .before .before .before .args .observation .rate in
-    let fits = c .before .before .before .before .before .before .before .before .before .before .before .before .before .before .before .before .struct-told .given .1 .1 .1 .1 .1 .0 in
-    let shown = rw (toZ-ofZ w32 rate (record { sfits = fits .1 })) at (c .before .before .before .before .before .before .before .before .before .before .before .before .before .before .before .put-hertz .ensures) in
-    let millis = c .before .before .before .before .before .before .before .number .ensures ∙ ap millisIn (c .before .before .before .before .before .before .before .before .before .before .before .before .before .before .before .before .before .before .since-lock .ensures) in
-    rw (← millis) (puts-join shown (puts-join (c .before .before .before .before .before .before .before .before .before .before .before .put .ensures) (puts-join (c .before .before .before .before .before .before .put-decimal .ensures) (c .before .before .put2 .ensures))))
+    let rate = c .before .before .before .before .before .before .before .before .before .before .before .before .before .before .before .before .before .args .observation .rate in
+    let fits = c .before .before .before .before .before .before .before .before .before .before .before .before .before .struct-told .given .1 .1 .1 .1 .1 .0 in
+    let shown = rw (toZ-ofZ w32 rate (record { sfits = fits .1 })) at (c .before .before .before .before .before .before .before .before .before .before .before .before .put-hertz .ensures) in
+    let millis = c .before .before .before .number .ensures ∙ ap millisIn (c .before .before .before .before .since-lock .ensures) in
+    rw (← millis) (puts-join shown (puts-join (c .before .before .before .before .before .before .before .before .put .ensures) (c .before .before .put-number .ensures)))
 
 pub put-rate-spec : {M : Type 1} → statement M
 put-rate-spec =
     tie.close
     (tie.spec
-    since-lock-requires
     put-hertz-requires
     put-requires
+    since-lock-requires
     number-requires
-    put-decimal-requires
-    put-requires-2
+    put-number-requires
     same-length
     returns)

@@ -25,14 +25,11 @@ condition-of-requires c κs = search needs
 put-condition-requires : tie.Need-put-condition-requires
 put-condition-requires c κs = search needs
 
-put-requires-3 : tie.Need-put-requires-3
-put-requires-3 c κs = search needs
-
 same-length : tie.Need-same-length
 same-length c = search needs
 
 returns : tie.Need-returns
-returns c = rw (← (c .before .before .before .before .before .before .before .before .before .before .before .before .before .before .before .before .before .before .before .before .before .before .before .before .phase-of .ensures .0), ← (c .before .before .before .before .before .before .before .condition-of .ensures)) (puts-join (c .before .before .before .before .before .before .before .before .before .before .before .before .before .before .before .before .before .before .before .before .before .before .before .put-phase .ensures) (puts-join (c .before .before .before .before .before .before .before .before .before .before .before .before .before .before .before .before .before .before .before .put .ensures) (puts-join (c .before .before .before .before .before .before .before .before .before .before .before .before .before .before .before .put-hex .ensures) (puts-join (c .before .before .before .before .before .before .before .before .before .before .before .put2 .ensures) (puts-join (c .before .before .before .before .before .before .put-condition .ensures) (c .before .before .put3 .ensures))))))
+returns c = rw (← (c .before .before .before .before .before .before .before .before .before .before .before .before .before .before .before .before .before .before .before .before .phase-of .ensures .0), ← (c .before .before .before .condition-of .ensures)) (puts-join (c .before .before .before .before .before .before .before .before .before .before .before .before .before .before .before .before .before .before .before .put-phase .ensures) (puts-join (c .before .before .before .before .before .before .before .before .before .before .before .before .before .before .before .put .ensures) (puts-join (c .before .before .before .before .before .before .before .before .before .before .before .put-hex .ensures) (puts-join (c .before .before .before .before .before .before .before .put2 .ensures) (c .before .before .put-condition .ensures)))))
 
 pub put-shown-spec : {M : Type 1} → statement M
 put-shown-spec =
@@ -45,6 +42,5 @@ put-shown-spec =
     put-requires-2
     condition-of-requires
     put-condition-requires
-    put-requires-3
     same-length
     returns)
