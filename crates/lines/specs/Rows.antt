@@ -23,14 +23,14 @@ use Rattle.track.specs.Condition.{conditionOf}
 use Rattle.track.specs.Shown.{phaseOf}
 use Rattle.lines.specs.Listing.{space, newline, numberText, countText, formText}
 
--- TYPE, or "- "
+-- the form, and TYPE or "- "
 abbrev pub signalText : Form → List ℕ
-signalText (New signal tfom) = numberText signal space
-signalText (Old version) = 45 ∷ space ∷ []
+signalText (New signal tfom) = formText (New signal tfom) ++ numberText signal space
+signalText (Old version) = formText (Old version) ++ (45 ∷ space ∷ [])
 
 -- position of the message, time, form, TYPE
 abbrev pub headText : ℕ → Header → List ℕ
-headText position h = numberText position space ++ (numberText (h .time) space ++ (formText (h .form) ++ signalText (h .form)))
+headText position h = numberText position space ++ (numberText (h .time) space ++ signalText (h .form))
 
 -- SID, C/N0, CONDITION, range in metres
 abbrev pub rangeText : Observation → List ℕ
@@ -58,12 +58,15 @@ conditionText (MakerDefined bits) = 45 ∷ space ∷ []
 abbrev pub shownText : Form → Observation → List ℕ
 shownText f o = phaseText (phaseOf f o) (o .phase) ++ ((space ∷ []) ++ (digits 16 16 (o .phase) ++ ((space ∷ []) ++ conditionText (conditionOf f o))))
 
--- rate in hertz, time since lock in milliseconds
-abbrev pub rateText : Observation → List ℕ
-rateText o = hertz (o .rate) ++ ((space ∷ []) ++ numberText (millisIn (lockMillis (o .lock))) newline)
-
+-- all of these, rate in hertz, time since lock in milliseconds
 abbrev pub observationText : ℕ → Header → Observation → List ℕ
-observationText position h o = headText position h ++ (rangeText o ++ (shownText (h .form) o ++ rateText o))
+observationText position h o =
+    headText position h
+    ++ (rangeText o
+    ++ (shownText (h .form) o
+    ++ (hertz (o .rate)
+    ++ ((space ∷ [])
+    ++ numberText (millisIn (lockMillis (o .lock))) newline))))
 
 abbrev pub rowText : ℕ → Reading → List ℕ
 rowText position (Refused r) = []

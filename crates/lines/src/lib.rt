@@ -9,7 +9,7 @@ use track::Phase;
 use track::Polarity;
 ghost use Rattle.text.specs.Put.{Puts};
 ghost use Rattle.lines.specs.Listing.{numberText, countText, formText, messageText, lineText, endText};
-ghost use Rattle.lines.specs.Rows.{signalText, headText, rangeText, phaseText, polarityText, conditionText, shownText, rateText, observationText, rowsText};
+ghost use Rattle.lines.specs.Rows.{headText, rangeText, phaseText, conditionText, shownText, observationText, rowsText};
 
 // ---- the listing
 
@@ -73,24 +73,17 @@ pub fn put_end(out: &mut [u8], at: usize, bytes: u64, messages: u64, gap: u64) -
 
 // ---- an observation's row
 
-// TYPE, which the old form does not have.
-fn put_signal(out: &mut [u8], at: usize, form: Form) -> usize
-    ensures { λ r. ⌜ Puts (now (out .entry)) at (signalText form) r (now (out .exit)) ⌝ }
-{
-    match form {
-        Form::New { signal, tfom: _ } => put_number(out, at, signal as u64, b' '),
-        Form::Old { version: _ } => text::put_all(out, at, b"- "),
-    }
-}
-
+// The message's position, its time, its form and TYPE, which the old form does not have.
 fn put_head(out: &mut [u8], at: usize, position: u64, header: Header) -> usize
     ensures { λ r. ⌜ Puts (now (out .entry)) at (headText position header) r (now (out .exit)) ⌝ }
 {
     let form = header.form;
     let next = put_number(out, at, position, b' ');
     let next = put_number(out, next, header.time as u64, b' ');
-    let next = put_form(out, next, form);
-    put_signal(out, next, form)
+    match form {
+        Form::New { signal, tfom: _ } => put_count(out, next, b"v2 ", signal as u64, b' '),
+        Form::Old { version: _ } => text::put_all(out, next, b"v1 - "),
+    }
 }
 
 // SID, C/N0, CONDITION and the range in metres.
@@ -116,27 +109,19 @@ fn put_phase(out: &mut [u8], at: usize, phase: Phase, bits: u64) -> usize
     }
 }
 
-fn put_polarity(out: &mut [u8], at: usize, polarity: Polarity) -> usize
-    ensures { λ r. ⌜ Puts (now (out .entry)) at (polarityText polarity) r (now (out .exit)) ⌝ }
+// CONDITION's polarity: in the old form the maker defines every bit.
+fn put_polarity(out: &mut [u8], at: usize, condition: Condition) -> usize
+    ensures { λ r. ⌜ Puts (now (out .entry)) at (conditionText condition) r (now (out .exit)) ⌝ }
 {
+    let Condition::Flagged(flags) = condition else {
+        return text::put_all(out, at, b"- ");
+    };
+    let polarity = flags.polarity;
     match polarity {
         Polarity::NotKnown => text::put_all(out, at, b"unknown "),
         Polarity::NotCorrected => text::put_all(out, at, b"uncorrected "),
         Polarity::NeedsHalfCycle => text::put_all(out, at, b"half "),
         Polarity::Undefined(code) => put_count(out, at, b"undefined", code as u64, b' '),
-    }
-}
-
-// CONDITION's polarity: in the old form the maker defines every bit.
-fn put_condition(out: &mut [u8], at: usize, condition: Condition) -> usize
-    ensures { λ r. ⌜ Puts (now (out .entry)) at (conditionText condition) r (now (out .exit)) ⌝ }
-{
-    match condition {
-        Condition::Flagged(flags) => {
-            let polarity = flags.polarity;
-            put_polarity(out, at, polarity)
-        }
-        Condition::MakerDefined(_) => text::put_all(out, at, b"- "),
     }
 }
 
@@ -149,27 +134,21 @@ fn put_shown(out: &mut [u8], at: usize, form: Form, observation: Observation) ->
     let next = text::put(out, next, b' ');
     let next = text::put_hex(out, next, bits, 16);
     let next = text::put(out, next, b' ');
-    put_condition(out, next, track::condition_of(form, observation))
+    put_polarity(out, next, track::condition_of(form, observation))
 }
 
-// The rate in hertz and the time since lock in milliseconds.
-fn put_rate(out: &mut [u8], at: usize, observation: Observation) -> usize
-    ensures { λ r. ⌜ Puts (now (out .entry)) at (rateText observation) r (now (out .exit)) ⌝ }
-{
-    let lock = observation.lock;
-    let next = text::put_hertz(out, at, observation.rate);
-    let next = text::put(out, next, b' ');
-    put_number(out, next, units::since_lock(lock).number(), b'\n')
-}
-
+// The rate in hertz and the time since lock in milliseconds end the row.
 fn put_row(out: &mut [u8], at: usize, position: u64, head: Header, observed: Observation) -> usize
     ensures { λ r. ⌜ Puts (now (out .entry)) at (observationText position head observed) r (now (out .exit)) ⌝ }
 {
     let form = head.form;
+    let lock = observed.lock;
     let next = put_head(out, at, position, head);
     let next = put_range(out, next, observed);
     let next = put_shown(out, next, form, observed);
-    put_rate(out, next, observed)
+    let next = text::put_hertz(out, next, observed.rate);
+    let next = text::put(out, next, b' ');
+    put_number(out, next, units::since_lock(lock).number(), b'\n')
 }
 
 // The rows of all observations of the message at a position.
