@@ -43,7 +43,4 @@ lineText position m = readText position (length m) (readOf m 0)
 
 -- "end ", all bytes, "messages ", all messages, "gap ", all gap bytes
 abbrev pub endText : ℕ → ℕ → ℕ → List ℕ
-endText bytes messages gap =
-    countText (101 ∷ 110 ∷ 100 ∷ space ∷ []) bytes space
-    ++ (countText (109 ∷ 101 ∷ 115 ∷ 115 ∷ 97 ∷ 103 ∷ 101 ∷ 115 ∷ space ∷ []) messages space
-    ++ countText (103 ∷ 97 ∷ 112 ∷ space ∷ []) gap newline)
+endText bytes messages gap = countText (101 ∷ 110 ∷ 100 ∷ space ∷ []) bytes space ++ (countText (109 ∷ 101 ∷ 115 ∷ 115 ∷ 97 ∷ 103 ∷ 101 ∷ 115 ∷ space ∷ []) messages space ++ countText (103 ∷ 97 ∷ 112 ∷ space ∷ []) gap newline)

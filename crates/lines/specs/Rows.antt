@@ -60,13 +60,7 @@ shownText f o = phaseText (phaseOf f o) (o .phase) ++ ((space ∷ []) ++ (digits
 
 -- all of these, rate in hertz, time since lock in milliseconds
 abbrev pub observationText : ℕ → Header → Observation → List ℕ
-observationText position h o =
-    headText position h
-    ++ (rangeText o
-    ++ (shownText (h .form) o
-    ++ (hertz (o .rate)
-    ++ ((space ∷ [])
-    ++ numberText (millisIn (lockMillis (o .lock))) newline))))
+observationText position h o = headText position h ++ (rangeText o ++ (shownText (h .form) o ++ (hertz (o .rate) ++ ((space ∷ []) ++ numberText (millisIn (lockMillis (o .lock))) newline))))
 
 abbrev pub rowText : ℕ → Reading → List ℕ
 rowText position (Refused r) = []
