@@ -1,7 +1,7 @@
 -- The rows for the people who compute the track: one an observation. Definitions only.
 use Prim.Native.Nat.{ℕ, zero, suc}
 use mathlib.Core.List.{List, [], _∷_, _++_}
-use Rattle.text.specs.Digits.{digits, decimal, metres, hertz}
+use Rattle.text.specs.Digits.{digits, metres, hertz}
 use Rattle.text.specs.Double.{nonfinite, cycles}
 use Rattle.units.specs.Units.{lockMillis, millisIn}
 use Rattle.macm.specs.Read.{readOf}
@@ -21,20 +21,20 @@ use Rattle.track.specs.declared.Condition.the-variants.{Flagged, MakerDefined}
 use Rattle.track.specs.Range.{rangeOf}
 use Rattle.track.specs.Condition.{conditionOf}
 use Rattle.track.specs.Shown.{phaseOf}
-use Rattle.lines.specs.Listing.{numberText, formText}
+use Rattle.lines.specs.Listing.{space, newline, numberText, countText, formText}
 
--- TYPE, or "- "
+-- the form, and TYPE or "- "
 abbrev pub signalText : Form → List ℕ
-signalText (New signal tfom) = numberText signal
-signalText (Old version) = 45 ∷ 32 ∷ []
+signalText (New signal tfom) = formText (New signal tfom) ++ numberText signal space
+signalText (Old version) = formText (Old version) ++ (45 ∷ space ∷ [])
 
 -- position of the message, time, form, TYPE
 abbrev pub headText : ℕ → Header → List ℕ
-headText position h = numberText position ++ (numberText (h .time) ++ (formText (h .form) ++ signalText (h .form)))
+headText position h = numberText position space ++ (numberText (h .time) space ++ signalText (h .form))
 
 -- SID, C/N0, CONDITION, range in metres
 abbrev pub rangeText : Observation → List ℕ
-rangeText o = numberText (o .sid) ++ (numberText (o .cn0) ++ (digits 16 4 (o .condition) ++ ((32 ∷ []) ++ (metres (rangeOf (o .pseudorange)) ++ (32 ∷ [])))))
+rangeText o = numberText (o .sid) space ++ (numberText (o .cn0) space ++ (digits 16 4 (o .condition) ++ ((space ∷ []) ++ (metres (rangeOf (o .pseudorange)) ++ (space ∷ [])))))
 
 -- "withheld", or the double by its bits
 abbrev pub phaseText : Phase → ℕ → List ℕ
@@ -42,28 +42,25 @@ phaseText Withheld bits = 119 ∷ 105 ∷ 116 ∷ 104 ∷ 104 ∷ 101 ∷ 108 �
 phaseText NotFinite bits = nonfinite
 phaseText (Cycles double) bits = cycles bits
 
--- "unknown", "uncorrected", "half" a cycle is needed, "undefined" with the code
+-- "unknown ", "uncorrected ", "half " a cycle is needed, "undefined" with the code
 abbrev pub polarityText : Polarity → List ℕ
-polarityText NotKnown = 117 ∷ 110 ∷ 107 ∷ 110 ∷ 111 ∷ 119 ∷ 110 ∷ []
-polarityText NotCorrected = 117 ∷ 110 ∷ 99 ∷ 111 ∷ 114 ∷ 114 ∷ 101 ∷ 99 ∷ 116 ∷ 101 ∷ 100 ∷ []
-polarityText NeedsHalfCycle = 104 ∷ 97 ∷ 108 ∷ 102 ∷ []
-polarityText (Undefined code) = (117 ∷ 110 ∷ 100 ∷ 101 ∷ 102 ∷ 105 ∷ 110 ∷ 101 ∷ 100 ∷ []) ++ decimal code
+polarityText NotKnown = 117 ∷ 110 ∷ 107 ∷ 110 ∷ 111 ∷ 119 ∷ 110 ∷ space ∷ []
+polarityText NotCorrected = 117 ∷ 110 ∷ 99 ∷ 111 ∷ 114 ∷ 114 ∷ 101 ∷ 99 ∷ 116 ∷ 101 ∷ 100 ∷ space ∷ []
+polarityText NeedsHalfCycle = 104 ∷ 97 ∷ 108 ∷ 102 ∷ space ∷ []
+polarityText (Undefined code) = countText (117 ∷ 110 ∷ 100 ∷ 101 ∷ 102 ∷ 105 ∷ 110 ∷ 101 ∷ 100 ∷ []) code space
 
--- "-" in the old form
+-- "- " in the old form
 abbrev pub conditionText : Condition → List ℕ
 conditionText (Flagged flags) = polarityText (flags .polarity)
-conditionText (MakerDefined bits) = 45 ∷ []
+conditionText (MakerDefined bits) = 45 ∷ space ∷ []
 
 -- phase in cycles, PHASE's sixteen digits, polarity
 abbrev pub shownText : Form → Observation → List ℕ
-shownText f o = phaseText (phaseOf f o) (o .phase) ++ ((32 ∷ []) ++ (digits 16 16 (o .phase) ++ ((32 ∷ []) ++ (conditionText (conditionOf f o) ++ (32 ∷ [])))))
+shownText f o = phaseText (phaseOf f o) (o .phase) ++ ((space ∷ []) ++ (digits 16 16 (o .phase) ++ ((space ∷ []) ++ conditionText (conditionOf f o))))
 
--- rate in hertz, time since lock in milliseconds
-abbrev pub rateText : Observation → List ℕ
-rateText o = hertz (o .rate) ++ ((32 ∷ []) ++ (decimal (millisIn (lockMillis (o .lock))) ++ (10 ∷ [])))
-
+-- all of these, rate in hertz, time since lock in milliseconds
 abbrev pub observationText : ℕ → Header → Observation → List ℕ
-observationText position h o = headText position h ++ (rangeText o ++ (shownText (h .form) o ++ rateText o))
+observationText position h o = headText position h ++ (rangeText o ++ (shownText (h .form) o ++ (hertz (o .rate) ++ ((space ∷ []) ++ numberText (millisIn (lockMillis (o .lock))) newline))))
 
 abbrev pub rowText : ℕ → Reading → List ℕ
 rowText position (Refused r) = []

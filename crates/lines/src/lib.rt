@@ -7,21 +7,26 @@ use macm::Reading;
 use track::Condition;
 use track::Phase;
 use track::Polarity;
-ghost use mathlib.Core.Path.{_≡_};
-ghost use Prim.Native.Nat.{_≤_};
 ghost use Rattle.text.specs.Put.{Puts};
-ghost use Rattle.macm.specs.Answers.{countIn};
-ghost use Rattle.lines.specs.Listing.{numberText, formText, messageText, lineText, endText};
-ghost use Rattle.lines.specs.Rows.{signalText, headText, rangeText, phaseText, polarityText, conditionText, shownText, rateText, observationText, rowText, rowsText};
+ghost use Rattle.lines.specs.Listing.{numberText, countText, formText, messageText, lineText, endText};
+ghost use Rattle.lines.specs.Rows.{headText, rangeText, phaseText, conditionText, shownText, observationText, rowsText};
 
 // ---- the listing
 
-// A number and the space behind it.
-fn put_number(out: &mut [u8], at: usize, n: u64) -> usize
-    ensures { λ r. ⌜ Puts (now (out .entry)) at (numberText n) r (now (out .exit)) ⌝ }
+// A number and the byte behind it.
+fn put_number(out: &mut [u8], at: usize, n: u64, behind: u8) -> usize
+    ensures { λ r. ⌜ Puts (now (out .entry)) at (numberText n behind) r (now (out .exit)) ⌝ }
 {
     let next = text::put_decimal(out, at, n);
-    text::put(out, next, b' ')
+    text::put(out, next, behind)
+}
+
+// A word, a number and the byte behind it.
+fn put_count(out: &mut [u8], at: usize, word: &[u8], n: u64, behind: u8) -> usize
+    ensures { λ r. ⌜ Puts (now (out .entry)) at (countText (now (word .entry)) n behind) r (now (out .exit)) ⌝ }
+{
+    let next = text::put_all(out, at, word);
+    put_number(out, next, n, behind)
 }
 
 fn put_form(out: &mut [u8], at: usize, form: Form) -> usize
@@ -33,37 +38,27 @@ fn put_form(out: &mut [u8], at: usize, form: Form) -> usize
     }
 }
 
-fn put_message(
-    out: &mut [u8],
-    at: usize,
-    position: u64,
-    length: u64,
-    header: Header,
-    count: u8,
-) -> usize
-    ensures { λ r. ⌜ Puts (now (out .entry)) at (messageText position length header count) r (now (out .exit)) ⌝ }
+fn put_read(out: &mut [u8], at: usize, position: u64, bytes: u64, head: Header, count: u8) -> usize
+    ensures { λ r. ⌜ Puts (now (out .entry)) at (messageText position bytes head count) r (now (out .exit)) ⌝ }
 {
-    let form = header.form;
-    let next = put_number(out, at, position);
-    let next = put_number(out, next, length);
+    let form = head.form;
+    let next = put_number(out, at, position, b' ');
+    let next = put_number(out, next, bytes, b' ');
     let next = put_form(out, next, form);
-    let next = put_number(out, next, count as u64);
-    let next = text::put_decimal(out, next, header.time as u64);
-    text::put(out, next, b'\n')
+    let next = put_number(out, next, count as u64, b' ');
+    put_number(out, next, head.time as u64, b'\n')
 }
 
 // The line of a message at a position: none where reading it is refused.
 pub fn put_line(out: &mut [u8], at: usize, position: u64, message: &[u8]) -> usize
     ensures { λ r. ⌜ Puts (now (out .entry)) at (lineText position (now (message .entry))) r (now (out .exit)) ⌝ }
 {
-    let length = message.len() as u64;
+    let bytes = message.len() as u64;
     let reading = macm::read(message, 0);
     match reading {
         Reading::Refused(_) => at,
-        Reading::HeaderOnly(header) => put_message(out, at, position, length, header, 0),
-        Reading::Observed(header, count, _) => {
-            put_message(out, at, position, length, header, count)
-        }
+        Reading::HeaderOnly(header) => put_read(out, at, position, bytes, header, 0),
+        Reading::Observed(header, count, _) => put_read(out, at, position, bytes, header, count),
     }
 }
 
@@ -71,43 +66,32 @@ pub fn put_line(out: &mut [u8], at: usize, position: u64, message: &[u8]) -> usi
 pub fn put_end(out: &mut [u8], at: usize, bytes: u64, messages: u64, gap: u64) -> usize
     ensures { λ r. ⌜ Puts (now (out .entry)) at (endText bytes messages gap) r (now (out .exit)) ⌝ }
 {
-    let next = text::put_all(out, at, b"end ");
-    let next = put_number(out, next, bytes);
-    let next = text::put_all(out, next, b"messages ");
-    let next = put_number(out, next, messages);
-    let next = text::put_all(out, next, b"gap ");
-    let next = text::put_decimal(out, next, gap);
-    text::put(out, next, b'\n')
+    let next = put_count(out, at, b"end ", bytes, b' ');
+    let next = put_count(out, next, b"messages ", messages, b' ');
+    put_count(out, next, b"gap ", gap, b'\n')
 }
 
 // ---- an observation's row
 
-// TYPE, which the old form does not have.
-fn put_signal(out: &mut [u8], at: usize, form: Form) -> usize
-    ensures { λ r. ⌜ Puts (now (out .entry)) at (signalText form) r (now (out .exit)) ⌝ }
-{
-    match form {
-        Form::New { signal, tfom: _ } => put_number(out, at, signal as u64),
-        Form::Old { version: _ } => text::put_all(out, at, b"- "),
-    }
-}
-
+// The message's position, its time, its form and TYPE, which the old form does not have.
 fn put_head(out: &mut [u8], at: usize, position: u64, header: Header) -> usize
     ensures { λ r. ⌜ Puts (now (out .entry)) at (headText position header) r (now (out .exit)) ⌝ }
 {
     let form = header.form;
-    let next = put_number(out, at, position);
-    let next = put_number(out, next, header.time as u64);
-    let next = put_form(out, next, form);
-    put_signal(out, next, form)
+    let next = put_number(out, at, position, b' ');
+    let next = put_number(out, next, header.time as u64, b' ');
+    match form {
+        Form::New { signal, tfom: _ } => put_count(out, next, b"v2 ", signal as u64, b' '),
+        Form::Old { version: _ } => text::put_all(out, next, b"v1 - "),
+    }
 }
 
 // SID, C/N0, CONDITION and the range in metres.
 fn put_range(out: &mut [u8], at: usize, observation: Observation) -> usize
     ensures { λ r. ⌜ Puts (now (out .entry)) at (rangeText observation) r (now (out .exit)) ⌝ }
 {
-    let next = put_number(out, at, observation.sid as u64);
-    let next = put_number(out, next, observation.cn0 as u64);
+    let next = put_number(out, at, observation.sid as u64, b' ');
+    let next = put_number(out, next, observation.cn0 as u64, b' ');
     let next = text::put_hex(out, next, observation.condition as u64, 4);
     let next = text::put(out, next, b' ');
     let next = text::put_metres(out, next, track::range_of(observation.pseudorange));
@@ -125,30 +109,19 @@ fn put_phase(out: &mut [u8], at: usize, phase: Phase, bits: u64) -> usize
     }
 }
 
-fn put_polarity(out: &mut [u8], at: usize, polarity: Polarity) -> usize
-    ensures { λ r. ⌜ Puts (now (out .entry)) at (polarityText polarity) r (now (out .exit)) ⌝ }
-{
-    match polarity {
-        Polarity::NotKnown => text::put_all(out, at, b"unknown"),
-        Polarity::NotCorrected => text::put_all(out, at, b"uncorrected"),
-        Polarity::NeedsHalfCycle => text::put_all(out, at, b"half"),
-        Polarity::Undefined(code) => {
-            let next = text::put_all(out, at, b"undefined");
-            text::put_decimal(out, next, code as u64)
-        }
-    }
-}
-
 // CONDITION's polarity: in the old form the maker defines every bit.
-fn put_condition(out: &mut [u8], at: usize, condition: Condition) -> usize
+fn put_polarity(out: &mut [u8], at: usize, condition: Condition) -> usize
     ensures { λ r. ⌜ Puts (now (out .entry)) at (conditionText condition) r (now (out .exit)) ⌝ }
 {
-    match condition {
-        Condition::Flagged(flags) => {
-            let polarity = flags.polarity;
-            put_polarity(out, at, polarity)
-        }
-        Condition::MakerDefined(_) => text::put(out, at, b'-'),
+    let Condition::Flagged(flags) = condition else {
+        return text::put_all(out, at, b"- ");
+    };
+    let polarity = flags.polarity;
+    match polarity {
+        Polarity::NotKnown => text::put_all(out, at, b"unknown "),
+        Polarity::NotCorrected => text::put_all(out, at, b"uncorrected "),
+        Polarity::NeedsHalfCycle => text::put_all(out, at, b"half "),
+        Polarity::Undefined(code) => put_count(out, at, b"undefined", code as u64, b' '),
     }
 }
 
@@ -161,71 +134,34 @@ fn put_shown(out: &mut [u8], at: usize, form: Form, observation: Observation) ->
     let next = text::put(out, next, b' ');
     let next = text::put_hex(out, next, bits, 16);
     let next = text::put(out, next, b' ');
-    let next = put_condition(out, next, track::condition_of(form, observation));
-    text::put(out, next, b' ')
+    put_polarity(out, next, track::condition_of(form, observation))
 }
 
-// The rate in hertz and the time since lock in milliseconds.
-fn put_rate(out: &mut [u8], at: usize, observation: Observation) -> usize
-    ensures { λ r. ⌜ Puts (now (out .entry)) at (rateText observation) r (now (out .exit)) ⌝ }
+// The rate in hertz and the time since lock in milliseconds end the row.
+fn put_row(out: &mut [u8], at: usize, position: u64, head: Header, observed: Observation) -> usize
+    ensures { λ r. ⌜ Puts (now (out .entry)) at (observationText position head observed) r (now (out .exit)) ⌝ }
 {
-    let lock = observation.lock;
-    let millis = units::since_lock(lock);
-    let next = text::put_hertz(out, at, observation.rate);
+    let form = head.form;
+    let lock = observed.lock;
+    let next = put_head(out, at, position, head);
+    let next = put_range(out, next, observed);
+    let next = put_shown(out, next, form, observed);
+    let next = text::put_hertz(out, next, observed.rate);
     let next = text::put(out, next, b' ');
-    let next = text::put_decimal(out, next, millis.number());
-    text::put(out, next, b'\n')
-}
-
-fn put_observation(
-    out: &mut [u8],
-    at: usize,
-    position: u64,
-    header: Header,
-    observation: Observation,
-) -> usize
-    ensures { λ r. ⌜ Puts (now (out .entry)) at (observationText position header observation) r (now (out .exit)) ⌝ }
-{
-    let form = header.form;
-    let next = put_head(out, at, position, header);
-    let next = put_range(out, next, observation);
-    let next = put_shown(out, next, form, observation);
-    put_rate(out, next, observation)
-}
-
-// The row of an observation, from what reading it answers: none where there is no observation.
-fn put_row(out: &mut [u8], at: usize, position: u64, reading: Reading) -> usize
-    ensures { λ r. ⌜ Puts (now (out .entry)) at (rowText position reading) r (now (out .exit)) ⌝ }
-{
-    match reading {
-        Reading::Refused(_) => at,
-        Reading::HeaderOnly(_) => at,
-        Reading::Observed(header, _, observation) => {
-            put_observation(out, at, position, header, observation)
-        }
-    }
-}
-
-fn count_in(reading: Reading) -> usize
-    ensures { λ r. ⌜ (r ≡ countIn reading) × (r ≤ 255) ⌝ }
-{
-    match reading {
-        Reading::Refused(_) => 0,
-        Reading::HeaderOnly(_) => 0,
-        Reading::Observed(_, count, _) => count as usize,
-    }
+    put_number(out, next, units::since_lock(lock).number(), b'\n')
 }
 
 // The rows of all observations of the message at a position.
 pub fn put_rows(out: &mut [u8], at: usize, position: u64, message: &[u8]) -> usize
     ensures { λ r. ⌜ Puts (now (out .entry)) at (rowsText position (now (message .entry))) r (now (out .exit)) ⌝ }
 {
-    let count = count_in(macm::read(message, 0));
     let mut next = at;
-    let mut index = 0;
-    while index < count {
-        next = put_row(out, next, position, macm::read(message, index));
-        index += 1;
+    for index in 0..255 {
+        let reading = macm::read(message, index);
+        let Reading::Observed(header, _, observation) = reading else {
+            return next;
+        };
+        next = put_row(out, next, position, header, observation);
     }
     next
 }

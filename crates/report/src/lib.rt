@@ -2,8 +2,6 @@
 // large blocks. What a line says is proved in `lines`, that blocks divided so give the division of the recording in `promises`; what a program prints is
 // held to stored output.
 use division::Walked;
-use libc::STDIN_FILENO;
-use libc::STDOUT_FILENO;
 use std::num::wrapping_add_u64;
 use std::num::wrapping_add_usize;
 ghost use mathlib.Core.Path.{_≡_};
@@ -42,14 +40,11 @@ fn keep(buffer: &mut [u8], from: usize, end: usize) -> usize {
     if end < from {
         return 0;
     }
-    if from == 0 {
-        return end;
-    }
     let count = end - from;
-    let mut i = 0;
-    while i < count {
-        buffer[i] = buffer[from + i];
-        i += 1;
+    if from > 0 {
+        for i in 0..count {
+            buffer[i] = buffer[from + i];
+        }
     }
     count
 }
@@ -60,7 +55,7 @@ fn read_behind(buffer: &mut [u8], kept: usize) -> usize {
         return 0;
     }
     let room = &mut buffer[kept..];
-    let got = libc::read(STDIN_FILENO, room);
+    let got = libc::read(libc::STDIN_FILENO, room);
     if got < 0 {
         os::fail(b"standard input");
     }
@@ -82,7 +77,7 @@ fn read_on(progress: Progress, buffer: &mut [u8]) -> Progress {
 
 // Writes out the text that waits, or says why it cannot.
 fn write_out(text: &[u8], waiting: usize) -> bool {
-    if io::write_all(STDOUT_FILENO, text::front(text, waiting)) {
+    if io::write_all(libc::STDOUT_FILENO, text::front(text, waiting)) {
         return true;
     }
     os::fail(b"standard output");
@@ -95,20 +90,6 @@ fn put_message(progress: Progress, message: &[u8], text: &mut [u8]) -> usize {
         return lines::put_rows(text, progress.waiting, progress.position, message);
     }
     lines::put_line(text, progress.waiting, progress.position, message)
-}
-
-// The last line of the listing; rows have none.
-fn put_last(progress: Progress, text: &mut [u8]) -> usize {
-    if progress.rows {
-        return progress.waiting;
-    }
-    lines::put_end(
-        text,
-        progress.waiting,
-        progress.position,
-        progress.messages,
-        progress.gap,
-    )
 }
 
 // ---- the division
@@ -137,9 +118,13 @@ fn given(progress: Progress, message: &[u8], text: &mut [u8]) -> Progress {
     }
 }
 
-// The end: the last line, and all that waits.
+// The end: the last line of the listing, which rows have none of, and all that waits.
 fn ended(progress: Progress, text: &mut [u8]) -> Progress {
-    let all = put_last(progress, text);
+    let bytes = progress.position;
+    let mut all = progress.waiting;
+    if !progress.rows {
+        all = lines::put_end(text, all, bytes, progress.messages, progress.gap);
+    }
     write_out(text, all);
     Progress {
         going: false,
@@ -150,8 +135,7 @@ fn ended(progress: Progress, text: &mut [u8]) -> Progress {
 // The next message of the buffer; or what is not settled yet, and the next block behind it; or the end.
 fn turn(progress: Progress, buffer: &mut [u8], text: &mut [u8]) -> Progress {
     let rest = part(buffer, progress.from, progress.end);
-    let walked = division::walk(progress.over, rest);
-    match walked {
+    match division::walk(progress.over, rest) {
         Walked::Message(at, length, _) => {
             let message = part(rest, at, wrapping_add_usize(at, length));
             given(passed(progress, at), message, text)
@@ -165,23 +149,11 @@ fn turn(progress: Progress, buffer: &mut [u8], text: &mut [u8]) -> Progress {
     }
 }
 
-// Turn after turn until there is no more to do. An input has an end, though nothing says so: the turns are counted down from a number that no run uses up.
-fn run(start: Progress, buffer: &mut [u8], text: &mut [u8]) {
-    let mut progress = start;
-    let mut turns = u64::MAX;
-    while turns > 0 {
-        turns -= 1;
-        progress = turn(progress, buffer, text);
-        if !progress.going {
-            return;
-        }
-    }
-}
-
+// Turn after turn until there is no more to do. An input has an end, though nothing says so: the turns are counted up to a number that no run reaches.
 fn print_recording(rows: bool, heading: &[u8]) {
     let mut buffer = [0u8; 131072];
     let mut text = [0u8; 131072];
-    let start = Progress {
+    let mut progress = Progress {
         rows,
         messages: 0,
         gap: 0,
@@ -192,7 +164,12 @@ fn print_recording(rows: bool, heading: &[u8]) {
         waiting: text::put_all(&mut text, 0, heading),
         going: true,
     };
-    run(start, &mut buffer, &mut text);
+    for _ in 0..u64::MAX {
+        progress = turn(progress, &mut buffer, &mut text);
+        if !progress.going {
+            return;
+        }
+    }
 }
 
 // The listing of document 01.

@@ -1,6 +1,6 @@
 -- Numbers as text, in ASCII. Definitions only.
 use Prim.Native.Nat.{ℕ, zero, suc, _+_, _/_, _%_}
-use mathlib.Core.Bool.{cond}
+use mathlib.Core.Bool.{Bool, true, false, cond}
 use mathlib.Core.List.{List, [], _∷_, _++_}
 use lib.IntN.{ℤ, pos, negsuc}
 use lib.Dec.{ltb}
@@ -23,14 +23,14 @@ needed (suc k) n = cond (ltb n 10) 1 (suc (needed k (n / 10)))
 abbrev pub decimal : ℕ → List ℕ
 decimal n = digits 10 (needed 20 n) n
 
--- n / unit, where unit = 10 ^ places, with so many digits behind the point
-abbrev pub fixed : ℕ → ℕ → ℕ → List ℕ
-fixed unit places n = decimal (n / unit) ++ (46 ∷ digits 10 places (n % unit))
+-- a sign, and n / unit, where unit = 10 ^ places, with so many digits behind the point
+abbrev pub fixed : Bool → ℕ → ℕ → ℕ → List ℕ
+fixed negative unit places n = cond negative (45 ∷ []) [] ++ (decimal (n / unit) ++ (46 ∷ digits 10 places (n % unit)))
 
 -- whole micrometres as metres; a rate in units of 1/10000 Hz as hertz
 abbrev pub metres : ℕ → List ℕ
-metres micrometres = fixed 1000000 6 micrometres
+metres micrometres = fixed false 1000000 6 micrometres
 
 abbrev pub hertz : ℤ → List ℕ
-hertz (pos n) = fixed 10000 4 n
-hertz (negsuc n) = 45 ∷ fixed 10000 4 (suc n)
+hertz (pos n) = fixed false 10000 4 n
+hertz (negsuc n) = fixed true 10000 4 (suc n)

@@ -1,8 +1,8 @@
 -- A double, by the bits of IEEE 754, with three decimals. Definitions only.
 use Prim.Native.Nat.{ℕ, _+_, _*_, _/_, _%_, _^_}
 use mathlib.Core.Bool.{cond}
-use mathlib.Core.List.{List, [], _∷_, _++_}
-use lib.Dec.{ltb, eqb}
+use mathlib.Core.List.{List, [], _∷_}
+use lib.Dec.{ltb, leb, eqb}
 use Rattle.text.specs.Digits.{fixed}
 
 -- the eleven bits under the sign, and the 52 under them
@@ -31,9 +31,6 @@ nonfinite = 110 ∷ 111 ∷ 110 ∷ 102 ∷ 105 ∷ 110 ∷ 105 ∷ 116 ∷ 101 
 abbrev pub wide : List ℕ
 wide = 119 ∷ 105 ∷ 100 ∷ 101 ∷ []
 
-abbrev pub sign : ℕ → List ℕ
-sign bits = cond (ltb bits (2 ^ 63)) [] (45 ∷ [])
-
 -- a phase in cycles; halves are rounded away from zero, since the sign stands apart
 abbrev pub cycles : ℕ → List ℕ
-cycles bits = cond (eqb (exponentOf bits) 2047) nonfinite (cond (ltb 1075 (exponentOf bits)) wide (sign bits ++ fixed 1000 3 (thousandths bits)))
+cycles bits = cond (eqb (exponentOf bits) 2047) nonfinite (cond (ltb 1075 (exponentOf bits)) wide (fixed (leb (2 ^ 63) bits) 1000 3 (thousandths bits)))

@@ -2,7 +2,7 @@
 // end of the buffer, and past the end nothing is put: whoever joins texts tests for room once, or not at all.
 ghost use mathlib.Core.Path.{_≡_};
 ghost use mathlib.Core.List.{_∷_, []};
-ghost use Prim.Native.Nat.{_+_, _<_, _≤_, _^_};
+ghost use Prim.Native.Nat.{_<_, _≤_};
 ghost use denote.Ref.{ptr};
 ghost use lib.ListN.{length, take};
 ghost use Rattle.text.specs.Digits.{digitOf, digits, needed, decimal, fixed, metres, hertz};
@@ -27,10 +27,8 @@ pub fn put_all(out: &mut [u8], at: usize, text: &[u8]) -> usize
     ensures { λ r. ⌜ Puts (now (out .entry)) at (now (text .entry)) r (now (out .exit)) ⌝ }
 {
     let mut next = at;
-    let mut i = 0;
-    while i < text.len() {
+    for i in 0..text.len() {
         next = put(out, next, text[i]);
-        i += 1;
     }
     next
 }
@@ -99,16 +97,12 @@ fn width_of(n: u64) -> usize
         rest = rest / 10000;
         width += 4;
     }
-    if rest < 10 {
-        return width;
+    match rest {
+        0..=9 => width,
+        10..=99 => width + 1,
+        100..=999 => width + 2,
+        _ => width + 3,
     }
-    if rest < 100 {
-        return width + 1;
-    }
-    if rest < 1000 {
-        return width + 2;
-    }
-    width + 3
 }
 
 // A whole number in decimal.
@@ -127,12 +121,13 @@ pub fn put_hex(out: &mut [u8], at: usize, n: u64, width: u8) -> usize
 
 // ---- decimals
 
-// n / unit, with so many digits behind the point.
-fn put_fixed(out: &mut [u8], at: usize, n: u64, unit: u64, places: usize) -> usize
+// A sign, then n / unit with so many digits behind the point.
+fn put_fixed(out: &mut [u8], at: usize, negative: bool, n: u64, unit: u64, places: usize) -> usize
     requires { ⌜ (0 < unit) × (places ≤ 255) ⌝ }
-    ensures { λ r. ⌜ Puts (now (out .entry)) at (fixed unit places n) r (now (out .exit)) ⌝ }
+    ensures { λ r. ⌜ Puts (now (out .entry)) at (fixed negative unit places n) r (now (out .exit)) ⌝ }
 {
-    let whole = put_decimal(out, at, n / unit);
+    let sign = if negative { put(out, at, b'-') } else { at };
+    let whole = put_decimal(out, sign, n / unit);
     let point = put(out, whole, b'.');
     put_digits(out, point, n % unit, 10, places)
 }
@@ -141,7 +136,7 @@ fn put_fixed(out: &mut [u8], at: usize, n: u64, unit: u64, places: usize) -> usi
 pub fn put_metres(out: &mut [u8], at: usize, micrometres: u64) -> usize
     ensures { λ r. ⌜ Puts (now (out .entry)) at (metres micrometres) r (now (out .exit)) ⌝ }
 {
-    put_fixed(out, at, micrometres, 1000000, 6)
+    put_fixed(out, at, false, micrometres, 1000000, 6)
 }
 
 // A rate in units of 1/10000 Hz as hertz, with four decimals.
@@ -149,28 +144,23 @@ pub fn put_hertz(out: &mut [u8], at: usize, rate: i32) -> usize
     ensures { λ r. ⌜ Puts (now (out .entry)) at (hertz rate) r (now (out .exit)) ⌝ }
 {
     if rate >= 0 {
-        return put_fixed(out, at, rate as u32 as u64, 10000, 4);
+        return put_fixed(out, at, false, rate as u32 as u64, 10000, 4);
     }
-    let sign = put(out, at, b'-');
-    put_fixed(out, sign, (-1 - rate) as u32 as u64 + 1, 10000, 4)
+    put_fixed(out, at, true, (-1 - rate) as u32 as u64 + 1, 10000, 4)
 }
 
-// The size of a double below 2^53 in thousandths, rounded once, halves up. 1000 times its digits fit 64 bits; the shift brings them to their place
-// with one binary digit more, which rounds.
+// The size of a double below 2^53 in thousandths, rounded once, halves up. 1000 times its digits fit 64 bits, and a shift brings them to their place.
 fn round_thousandths(bits: u64, exponent: u64) -> u64
     requires { ⌜ (exponent ≡ exponentOf bits) × (exponent < 1076) ⌝ }
     ensures { λ r. ⌜ r ≡ thousandths bits ⌝ }
 {
-    let scaled = (bits % 0x10_0000_0000_0000 + 0x10_0000_0000_0000) * 1000;
-    if exponent < 1011 {
+    if exponent < 1012 {
         return 0;
     }
-    if exponent == 1075 {
-        return scaled;
-    }
-    let places = 1074 - exponent;
-    let half = 1u64 << places;
-    ((scaled + half) >> places) / 2
+    let scaled = (bits % 0x10_0000_0000_0000 + 0x10_0000_0000_0000) * 1000;
+    let places = 1075 - exponent;
+    let half = (1u64 << places) / 2;
+    (scaled + half) >> places
 }
 
 // A double of so many cycles, by its bits, with three decimals: or a word, where it is not finite, or so wide that it does not tell whole cycles.
@@ -185,9 +175,5 @@ pub fn put_cycles(out: &mut [u8], at: usize, bits: u64) -> usize
         return put_all(out, at, b"wide");
     }
     let size = round_thousandths(bits, exponent);
-    if bits < 0x8000_0000_0000_0000 {
-        return put_fixed(out, at, size, 1000, 3);
-    }
-    let sign = put(out, at, b'-');
-    put_fixed(out, sign, size, 1000, 3)
+    put_fixed(out, at, bits >= 0x8000_0000_0000_0000, size, 1000, 3)
 }

@@ -1,7 +1,6 @@
 // The messages that 264-21 and 264-04 publish, and the lines of document 01's sample table that are to be run, through the library: what it reads of
 // them is printed, and held to what the second reader prints.
 use division::Next;
-use libc::STDOUT_FILENO;
 use macm::Verdict;
 use stream::Answer;
 use stream::Reply;
@@ -26,9 +25,7 @@ fn put_given(text: &mut [u8], at: usize, gap: u64, position: u64, message: &[u8]
 fn put_recording(text: &mut [u8], at: usize, recording: &[u8]) -> usize {
     let mut next = at;
     let mut start = 0;
-    let mut turns = u64::MAX;
-    while turns > 0 {
-        turns -= 1;
+    for _ in 0..u64::MAX {
         match division::next_message(recording, start) {
             Next::Message {
                 position,
@@ -39,12 +36,8 @@ fn put_recording(text: &mut [u8], at: usize, recording: &[u8]) -> usize {
                 next = put_given(text, next, gap as u64, position as u64, message);
                 start = std::num::wrapping_add_usize(position, length);
             }
-            Next::End { gap } => {
-                return put_count(text, next, b"gap ", gap as u64);
-            }
-            Next::Refused(_) => {
-                return next;
-            }
+            Next::End { gap } => return put_count(text, next, b"gap ", gap as u64),
+            Next::Refused(_) => return next,
         }
     }
     next
@@ -57,14 +50,13 @@ fn put_check(text: &mut [u8], at: usize, message: &[u8]) -> usize {
     }
 }
 
-fn put_answer(text: &mut [u8], at: usize, answer: Answer, output: &[u8]) -> usize {
+fn put_reply(text: &mut [u8], at: usize, reply: Reply, output: &[u8]) -> usize {
+    let answer = reply.answer;
     match answer {
         Answer::NeedsMore => text::put_all(text, at, b"needs more\n"),
-        Answer::Message {
-            length,
-            gap,
-            taken: _,
-        } => { put_given(text, at, gap, gap, text::front(output, length as usize)) }
+        Answer::Message { length, gap, .. } => {
+            put_given(text, at, gap, gap, text::front(output, length as usize))
+        }
         Answer::End { gap } => put_count(text, at, b"end gap ", gap),
         Answer::Refused(refusal) => put_count(text, at, b"refused ", refusal::number(refusal)),
     }
@@ -102,11 +94,6 @@ fn put_printed_checks(text: &mut [u8], at: usize) -> usize {
 
 // ---- the lines to be run
 
-fn put_reply(text: &mut [u8], at: usize, reply: Reply, output: &[u8]) -> usize {
-    let answer = reply.answer;
-    put_answer(text, at, answer, output)
-}
-
 // S12 by the stream reader: fed whole, then finished twice.
 fn put_calls(text: &mut [u8], at: usize) -> usize {
     let mut window = [0u8; 6136];
@@ -135,5 +122,5 @@ fn main() {
     let at = put_recording(&mut text, at, both);
     let at = text::put_all(&mut text, at, b"S12\n");
     let at = put_calls(&mut text, at);
-    io::write_all(STDOUT_FILENO, text::front(&text, at));
+    io::write_all(libc::STDOUT_FILENO, text::front(&text, at));
 }

@@ -2,7 +2,9 @@
 use borrow.Author.Needs.{needs}
 use Rattle.lines.proofs.put_polarity.Statement.{statement}
 use Rattle.lines.proofs.put_polarity.Tie as tie
-use Rattle.text.proofs.PutLaws.{puts-join}
+
+enum-known-condition : tie.Need-enum-known-condition
+enum-known-condition c = search needs
 
 enum-told : tie.Need-enum-told
 enum-told c = search needs
@@ -12,6 +14,12 @@ slice-aggregate-put-all c = search needs
 
 put-all-requires : tie.Need-put-all-requires
 put-all-requires c κs = search needs
+
+same-length : tie.Need-same-length
+same-length c = search needs
+
+returns : tie.Need-returns
+returns c = rw (c .before .before .before .before .before .enum-told .given .1) (c .before .before .put-all .ensures)
 
 enum-told-2 : tie.Need-enum-told-2
 enum-told-2 c = search needs
@@ -31,8 +39,8 @@ slice-aggregate-put-all-3 c = search needs
 put-all-requires-3 : tie.Need-put-all-requires-3
 put-all-requires-3 c κs = search needs
 
-enum-known-polarity : tie.Need-enum-known-polarity
-enum-known-polarity c = search needs
+enum-told-4 : tie.Need-enum-told-4
+enum-told-4 c = search needs
 
 slice-aggregate-put-all-4 : tie.Need-slice-aggregate-put-all-4
 slice-aggregate-put-all-4 c = search needs
@@ -40,59 +48,70 @@ slice-aggregate-put-all-4 c = search needs
 put-all-requires-4 : tie.Need-put-all-requires-4
 put-all-requires-4 c κs = search needs
 
-cast-put-decimal : tie.Need-cast-put-decimal
-cast-put-decimal c = search needs
+enum-known-polarity : tie.Need-enum-known-polarity
+enum-known-polarity c = search needs
 
-put-decimal-requires : tie.Need-put-decimal-requires
-put-decimal-requires c κs = search needs
+slice-aggregate-put-count : tie.Need-slice-aggregate-put-count
+slice-aggregate-put-count c = search needs
 
-same-length : tie.Need-same-length
-same-length c = search needs
+cast-put-count : tie.Need-cast-put-count
+cast-put-count c = search needs
 
-returns : tie.Need-returns
-returns c = rw (c .before .before .before .before .before .enum-told .given .1) (c .before .before .put-all .ensures)
+put-count-requires : tie.Need-put-count-requires
+put-count-requires c κs = search needs
 
 same-length-2 : tie.Need-same-length-2
 same-length-2 c = search needs
 
 returns-2 : tie.Need-returns-2
-returns-2 c = rw (c .before .before .before .before .before .enum-told2 .given .1) (c .before .before .put-all2 .ensures)
+returns-2 c = rw (c .before .before .before .before .before .before .before .before .condition .given .1, c .before .before .before .before .before .enum-told2 .given .1) (c .before .before .put-all2 .ensures)
 
 same-length-3 : tie.Need-same-length-3
 same-length-3 c = search needs
 
 returns-3 : tie.Need-returns-3
-returns-3 c = rw (c .before .before .before .before .before .enum-told3 .given .1) (c .before .before .put-all3 .ensures)
+returns-3 c = rw (c .before .before .before .before .before .before .before .before .condition .given .1, c .before .before .before .before .before .enum-told3 .given .1) (c .before .before .put-all3 .ensures)
 
 same-length-4 : tie.Need-same-length-4
 same-length-4 c = search needs
 
 returns-4 : tie.Need-returns-4
-returns-4 c = rw (c .before .before .before .before .before .before .before .before .before .before .polarity .given .1) (puts-join (c .before .before .before .before .before .before .put-all4 .ensures) (c .before .before .put-decimal .ensures))
+returns-4 c = rw (c .before .before .before .before .before .before .before .before .condition .given .1, c .before .before .before .before .before .enum-told4 .given .1) (c .before .before .put-all4 .ensures)
+
+same-length-5 : tie.Need-same-length-5
+same-length-5 c = search needs
+
+returns-5 : tie.Need-returns-5
+returns-5 c = rw (c .before .before .before .before .before .before .before .before .before .condition .given .1, c .before .before .before .before .before .before .polarity .given .1) (c .before .before .put-count .ensures)
 
 pub put-polarity-spec : {M : Type 1} → statement M
 put-polarity-spec =
     tie.close
     (tie.spec
+    enum-known-condition
     enum-told
     slice-aggregate-put-all
     put-all-requires
+    same-length
+    returns
     enum-told-2
     slice-aggregate-put-all-2
     put-all-requires-2
     enum-told-3
     slice-aggregate-put-all-3
     put-all-requires-3
-    enum-known-polarity
+    enum-told-4
     slice-aggregate-put-all-4
     put-all-requires-4
-    cast-put-decimal
-    put-decimal-requires
-    same-length
-    returns
+    enum-known-polarity
+    slice-aggregate-put-count
+    cast-put-count
+    put-count-requires
     same-length-2
     returns-2
     same-length-3
     returns-3
     same-length-4
-    returns-4)
+    returns-4
+    same-length-5
+    returns-5)

@@ -2,41 +2,58 @@
 use borrow.Author.Needs.{needs}
 use Rattle.lines.proofs.put_row.Statement.{statement}
 use Rattle.lines.proofs.put_row.Tie as tie
-use Rattle.text.proofs.PutLaws.{puts-none}
+use Rattle.text.proofs.PutLaws.{puts-join}
+use mir.Syntax.{w32}
+use mir.ValLaws.{toZ-ofZ}
+use mathlib.Core.Path.{_∙_, ap}
+use Rattle.units.specs.Units.{millisIn}
 
-enum-told : tie.Need-enum-told
-enum-told c = search needs
+put-head-requires : tie.Need-put-head-requires
+put-head-requires c κs = search needs
 
-enum-told-2 : tie.Need-enum-told-2
-enum-told-2 c = search needs
+put-range-requires : tie.Need-put-range-requires
+put-range-requires c κs = search needs
 
-enum-known-reading : tie.Need-enum-known-reading
-enum-known-reading c = search needs
+put-shown-requires : tie.Need-put-shown-requires
+put-shown-requires c κs = search needs
 
-put-observation-requires : tie.Need-put-observation-requires
-put-observation-requires c κs = search needs
+put-hertz-requires : tie.Need-put-hertz-requires
+put-hertz-requires c κs = search needs
 
-returns : tie.Need-returns
-returns c = rw (c .enum-told .given .1) (puts-none _ _)
+put-requires : tie.Need-put-requires
+put-requires c κs = search needs
 
-returns-2 : tie.Need-returns-2
-returns-2 c = rw (c .enum-told2 .given .1) (puts-none _ _)
+since-lock-requires : tie.Need-since-lock-requires
+since-lock-requires c κs = search needs
+
+number-requires : tie.Need-number-requires
+number-requires c κs = search needs
+
+put-number-requires : tie.Need-put-number-requires
+put-number-requires c κs = search needs
 
 same-length : tie.Need-same-length
 same-length c = search needs
 
-returns-3 : tie.Need-returns-3
-returns-3 c = rw (c .before .before .before .before .before .reading .given .1) (c .before .before .put-observation .ensures)
+returns : tie.Need-returns
+returns c =
+    let rate = c .before .before .before .before .before .before .before .before .before .before .before .before .before .before .before .before .before .before .before .before .before .before .before .before .before .before .before .before .before .args .observed .rate in
+    let fits = c .before .before .before .before .before .before .before .before .before .before .before .before .before .struct-told .given .1 .1 .1 .1 .1 .0 in
+    let shown = rw (toZ-ofZ w32 rate (record { sfits = fits .1 })) at (c .before .before .before .before .before .before .before .before .before .before .before .before .put-hertz .ensures) in
+    let millis = c .before .before .before .number .ensures ∙ ap millisIn (c .before .before .before .before .since-lock .ensures) in
+    rw (← millis) (puts-join (c .before .before .before .before .before .before .before .before .before .before .before .before .before .before .before .before .before .before .before .before .before .before .before .before .before .put-head .ensures) (puts-join (c .before .before .before .before .before .before .before .before .before .before .before .before .before .before .before .before .before .before .before .before .before .put-range .ensures) (puts-join (c .before .before .before .before .before .before .before .before .before .before .before .before .before .before .before .before .before .put-shown .ensures) (puts-join shown (puts-join (c .before .before .before .before .before .before .before .before .put .ensures) (c .before .before .put-number .ensures))))))
 
 pub put-row-spec : {M : Type 1} → statement M
 put-row-spec =
     tie.close
     (tie.spec
-    enum-told
-    enum-told-2
-    enum-known-reading
-    put-observation-requires
-    returns
-    returns-2
+    put-head-requires
+    put-range-requires
+    put-shown-requires
+    put-hertz-requires
+    put-requires
+    since-lock-requires
+    number-requires
+    put-number-requires
     same-length
-    returns-3)
+    returns)

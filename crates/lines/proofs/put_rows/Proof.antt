@@ -1,35 +1,44 @@
--- `lines::put_rows` meets its contract: after each turn the rows up to its index are put. Assumes nothing.
+-- `lines::put_rows` meets its contract: before each turn the rows up to its index are put. Assumes nothing.
 use borrow.Author.Needs.{needs}
 use Rattle.lines.proofs.put_rows.Statement.{statement}
 use Rattle.lines.proofs.put_rows.Tie as tie
-use Prim.Native.Nat.{_-_, _≤_}
-use mathlib.Core.Path.{_≡_, ap, _∙_}
+use Prim.Native.Nat.{_-_, _≤_, _<_}
+use mathlib.Core.Path.{_≡_, sym, _∙_}
 use native.Mathlib.Omega.{arith}
 use native.Mathlib.Numerals.{add-one}
 use Rattle.macm.specs.Read.{readOf}
+use Rattle.macm.specs.Answers.{countIn}
 use Rattle.text.specs.Put.{Puts}
 use Rattle.text.proofs.PutLaws.{puts-none, puts-join, puts-length}
-use Rattle.macm.specs.Answers.{countIn}
 use Rattle.lines.specs.Rows.{rowsUpTo}
+use Rattle.lines.proofs.Counted.{counted, past}
 
 abbrev Inv-loop : tie.InvT-loop
-Inv-loop out₀ at position message count next₀ index₀ out next index = (index ≤ count) × (count ≤ 255) × (count ≡ countIn (readOf message 0)) × Puts out₀ at (rowsUpTo index position message) next out
+Inv-loop out₀ at position message next₀ index₀ out next index = (index ≤ 255) × (index ≤ countIn (readOf message 0)) × (0 < index → countIn (readOf message 0) ≤ 255) × Puts out₀ at (rowsUpTo index position message) next out
 
 abbrev μ-loop : tie.MeasureT-loop
-μ-loop out₀ at position message count next₀ index₀ out next index = count - index
+μ-loop out₀ at position message next₀ index₀ out next index = 255 - index
+
+loop-holds : tie.Need-loop-holds Inv-loop μ-loop
+unfolding rowsUpTo
+loop-holds c = (omega arith, omega arith, (λ h. omega arith), puts-none _ _)
 
 read-requires : tie.Need-read-requires Inv-loop μ-loop
 read-requires c κs = search needs
 
-count-in-requires : tie.Need-count-in-requires Inv-loop μ-loop
-count-in-requires c κs = search needs
+enum-known-reading : tie.Need-enum-known-reading Inv-loop μ-loop
+enum-known-reading c = search needs
 
-loop-holds : tie.Need-loop-holds Inv-loop μ-loop
-unfolding rowsUpTo
-loop-holds c = (omega arith, c .count-in .ensures .1, c .count-in .ensures .0 ∙ ap countIn (c .before .read .ensures), puts-none _ _)
+same-length : tie.Need-same-length Inv-loop μ-loop
+same-length c = puts-length (c .before .before .before .loop .inv .3)
 
-read-requires-2 : tie.Need-read-requires-2 Inv-loop μ-loop
-read-requires-2 c κs = search needs
+returns : tie.Need-returns Inv-loop μ-loop
+returns c =
+    let m = c .before .before .before .before .before .before .args .message .now in
+    let l = c .before .before .before .loop in
+    let n = past (l .index) (countIn (readOf m 0)) (c .before .read .result) (c .match .keys2) (rw (c .before .read .ensures) (counted m (l .index))) in
+    let z : l .index ≡ countIn (readOf m 0) = omega (arith, n, l .inv .1) in
+    rw z at (l .inv .3)
 
 put-row-requires : tie.Need-put-row-requires Inv-loop μ-loop
 put-row-requires c κs = search needs
@@ -43,17 +52,22 @@ loop-less c = search needs
 loop-again : tie.Need-loop-again Inv-loop μ-loop
 unfolding rowsUpTo
 loop-again c =
-    let l = c .before .before .before .before .before .before .loop in
-    let s = c .before .before .before .before .before .before .before .before .before .before .before .args in
-    (omega arith, l .inv .1, l .inv .2, rw (add-one, ← (c .before .before .before .read2 .ensures)) (puts-join (l .inv .3) (c .before .before .put-row .ensures)))
+    let m = c .before .before .before .before .before .before .before .before .before .before .before .before .args .message .now in
+    let l = c .before .before .before .before .before .before .before .before .before .loop in
+    let told = sym (c .before .before .before .before .before .before .before .read .ensures) ∙ c .before .before .before .before .before .reading .given .1 in
+    let there = rw (told) at (counted m (l .index)) in
+    let fits = c .before .before .before .before .known-told .given .1 .0 in
+    (omega arith, omega (arith, there .0), (λ h. omega (arith, there .1, fits)), rw (add-one, told) (puts-join (l .inv .3) (c .before .before .put-row .ensures)))
 
-same-length : tie.Need-same-length Inv-loop μ-loop
-same-length c = puts-length (c .before .loop .inv .3)
+same-length-2 : tie.Need-same-length-2 Inv-loop μ-loop
+same-length-2 c = puts-length (c .before .loop .inv .3)
 
-returns : tie.Need-returns Inv-loop μ-loop
-returns c =
+returns-2 : tie.Need-returns-2 Inv-loop μ-loop
+returns-2 c =
+    let m = c .before .before .before .before .args .message .now in
     let l = c .before .loop in
-    let z : l .index ≡ countIn (readOf (c .before .before .before .before .before .before .args .message .now) 0) = (let e : l .index ≡ c .before .before .count-in .result = omega arith in e) ∙ l .inv .2 in
+    let n = l .inv .2 (omega arith) in
+    let z : l .index ≡ countIn (readOf m 0) = omega (arith, n, l .inv .1) in
     rw z at (l .inv .3)
 
 pub put-rows-spec : {M : Type 1} → statement M
@@ -62,13 +76,14 @@ put-rows-spec =
     (tie.spec
     Inv-loop
     μ-loop
-    read-requires
-    count-in-requires
     loop-holds
-    read-requires-2
+    read-requires
+    enum-known-reading
+    same-length
+    returns
     put-row-requires
     add-index
     loop-less
     loop-again
-    same-length
-    returns)
+    same-length-2
+    returns-2)

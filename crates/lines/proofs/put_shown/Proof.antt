@@ -22,17 +22,14 @@ put-requires-2 c κs = search needs
 condition-of-requires : tie.Need-condition-of-requires
 condition-of-requires c κs = search needs
 
-put-condition-requires : tie.Need-put-condition-requires
-put-condition-requires c κs = search needs
-
-put-requires-3 : tie.Need-put-requires-3
-put-requires-3 c κs = search needs
+put-polarity-requires : tie.Need-put-polarity-requires
+put-polarity-requires c κs = search needs
 
 same-length : tie.Need-same-length
 same-length c = search needs
 
 returns : tie.Need-returns
-returns c = rw (← (c .before .before .before .before .before .before .before .before .before .before .before .before .before .before .before .before .before .before .before .before .before .before .before .before .phase-of .ensures .0), ← (c .before .before .before .before .before .before .before .condition-of .ensures)) (puts-join (c .before .before .before .before .before .before .before .before .before .before .before .before .before .before .before .before .before .before .before .before .before .before .before .put-phase .ensures) (puts-join (c .before .before .before .before .before .before .before .before .before .before .before .before .before .before .before .before .before .before .before .put .ensures) (puts-join (c .before .before .before .before .before .before .before .before .before .before .before .before .before .before .before .put-hex .ensures) (puts-join (c .before .before .before .before .before .before .before .before .before .before .before .put2 .ensures) (puts-join (c .before .before .before .before .before .before .put-condition .ensures) (c .before .before .put3 .ensures))))))
+returns c = rw (← (c .before .before .before .before .before .before .before .before .before .before .before .before .before .before .before .before .before .before .before .before .phase-of .ensures .0), ← (c .before .before .before .condition-of .ensures)) (puts-join (c .before .before .before .before .before .before .before .before .before .before .before .before .before .before .before .before .before .before .before .put-phase .ensures) (puts-join (c .before .before .before .before .before .before .before .before .before .before .before .before .before .before .before .put .ensures) (puts-join (c .before .before .before .before .before .before .before .before .before .before .before .put-hex .ensures) (puts-join (c .before .before .before .before .before .before .before .put2 .ensures) (c .before .before .put-polarity .ensures)))))
 
 pub put-shown-spec : {M : Type 1} → statement M
 put-shown-spec =
@@ -44,7 +41,6 @@ put-shown-spec =
     put-hex-requires
     put-requires-2
     condition-of-requires
-    put-condition-requires
-    put-requires-3
+    put-polarity-requires
     same-length
     returns)

@@ -18,9 +18,6 @@ returns c = search needs
 returns-2 : tie.Need-returns-2 Inv-loop μ-loop
 returns-2 c = search needs
 
-returns-3 : tie.Need-returns-3 Inv-loop μ-loop
-returns-3 c = search needs
-
 loop-holds : tie.Need-loop-holds Inv-loop μ-loop
 loop-holds c = search needs
 
@@ -45,6 +42,9 @@ loop-again c = search needs
 same-length : tie.Need-same-length Inv-loop μ-loop
 same-length c = search needs
 
+returns-3 : tie.Need-returns-3 Inv-loop μ-loop
+returns-3 c = search needs
+
 returns-4 : tie.Need-returns-4 Inv-loop μ-loop
 returns-4 c = search needs
 
@@ -56,7 +56,6 @@ keep-spec =
     μ-loop
     returns
     returns-2
-    returns-3
     loop-holds
     add-buffer
     slice-read-buffer
@@ -65,4 +64,5 @@ keep-spec =
     loop-less
     loop-again
     same-length
+    returns-3
     returns-4)

@@ -1,4 +1,5 @@
 -- `vectors::put_recording` meets its contract: each turn is counted, and the buffer keeps its length. Assumes nothing.
+use Prim.Native.Nat.{_-_}
 use mathlib.Core.Path.{_≡_}
 use lib.ListN.{length}
 use borrow.Author.Needs.{needs}
@@ -6,16 +7,13 @@ use Rattle.vectors.proofs.put_recording.Statement.{statement}
 use Rattle.vectors.proofs.put_recording.Tie as tie
 
 abbrev Inv-loop : tie.InvT-loop
-Inv-loop text₀ at recording next₀ start₀ turns₀ t12 text next start turns = length text ≡ length text₀
+Inv-loop text₀ at recording next₀ start₀ t11 counter₀ text next start counter = length text ≡ length text₀
 
 abbrev μ-loop : tie.MeasureT-loop
-μ-loop text₀ at recording next₀ start₀ turns₀ t12 text next start turns = turns
+μ-loop text₀ at recording next₀ start₀ t11 counter₀ text next start counter = 18446744073709551615 - counter
 
 loop-holds : tie.Need-loop-holds Inv-loop μ-loop
 loop-holds c = search needs
-
-sub-turns : tie.Need-sub-turns Inv-loop μ-loop
-sub-turns c = search needs
 
 next-message-requires : tie.Need-next-message-requires Inv-loop μ-loop
 next-message-requires c κs = search needs
@@ -31,12 +29,6 @@ put-given-requires c κs = search needs
 
 wrapping-add-usize-requires : tie.Need-wrapping-add-usize-requires Inv-loop μ-loop
 wrapping-add-usize-requires c κs = search needs
-
-loop-less : tie.Need-loop-less Inv-loop μ-loop
-loop-less c = search needs
-
-loop-again : tie.Need-loop-again Inv-loop μ-loop
-loop-again c = search needs
 
 enum-known-gap : tie.Need-enum-known-gap Inv-loop μ-loop
 enum-known-gap c = search needs
@@ -62,6 +54,15 @@ same-length-2 c = search needs
 returns-2 : tie.Need-returns-2 Inv-loop μ-loop
 returns-2 c = search needs
 
+add-counter : tie.Need-add-counter Inv-loop μ-loop
+add-counter c = search needs
+
+loop-less : tie.Need-loop-less Inv-loop μ-loop
+loop-less c = search needs
+
+loop-again : tie.Need-loop-again Inv-loop μ-loop
+loop-again c = search needs
+
 same-length-3 : tie.Need-same-length-3 Inv-loop μ-loop
 same-length-3 c = search needs
 
@@ -75,14 +76,11 @@ put-recording-spec =
     Inv-loop
     μ-loop
     loop-holds
-    sub-turns
     next-message-requires
     enum-known-position
     message-part-requires
     put-given-requires
     wrapping-add-usize-requires
-    loop-less
-    loop-again
     enum-known-gap
     slice-aggregate-put-count
     put-count-requires
@@ -91,5 +89,8 @@ put-recording-spec =
     enum-told
     same-length-2
     returns-2
+    add-counter
+    loop-less
+    loop-again
     same-length-3
     returns-3)
