@@ -36,13 +36,12 @@ count-of f (suc n) m = rw (lt-ltb 0 (suc n) (omega arith))
 
 counted-as : (f : Form) (n : ℕ) (m : List ℕ) (k : ℕ) → Counted k n (readAs f n m k)
 unfolding readAs
-counted-as f n m k = go (ltb k n) refl (eqb n 0) (eqb k 0)
+counted-as f n m k = go (ltb k n) refl (eqb k 0)
   where
-    go : (a : Bool) → ltb k n ≡ a → (b c : Bool) → Counted k n (cond a (Observed (headerOf f m) n (observationOf (part (observationAt f k) 24 m))) (cond b (cond c (HeaderOnly (headerOf f m)) (NotRead NoObservation)) (NotRead NoObservation)))
-    go true e b c = (ltb-true k n e, refl)
-    go false e true true = ltb-false k n e
-    go false e true false = ltb-false k n e
-    go false e false c = ltb-false k n e
+    go : (a : Bool) → ltb k n ≡ a → (b : Bool) → Counted k n (cond a (Observed (headerOf f m) n (observationOf (part (observationAt f k) 24 m))) (cond b (HeaderOnly (headerOf f m)) (NotRead NoObservation)))
+    go true e b = (ltb-true k n e, refl)
+    go false e true = ltb-false k n e
+    go false e false = ltb-false k n e
 
 counted-by : (v : Verdict) (m : List ℕ) (k : ℕ) → Counted k (countIn (readBy v m 0)) (readBy v m k)
 unfolding readBy
