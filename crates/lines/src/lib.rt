@@ -38,6 +38,7 @@ fn put_form(out: &mut [u8], at: usize, form: Form) -> usize
     }
 }
 
+// The columns of a message's line.
 fn put_read(out: &mut [u8], at: usize, position: u64, bytes: u64, head: Header, count: u8) -> usize
     ensures { λ r. ⌜ Puts (now (out .entry)) at (messageText position bytes head count) r (now (out .exit)) ⌝ }
 {
@@ -54,8 +55,7 @@ pub fn put_line(out: &mut [u8], at: usize, position: u64, message: &[u8]) -> usi
     ensures { λ r. ⌜ Puts (now (out .entry)) at (lineText position (now (message .entry))) r (now (out .exit)) ⌝ }
 {
     let bytes = message.len() as u64;
-    let reading = macm::read(message, 0);
-    match reading {
+    match macm::read(message, 0) {
         Reading::Refused(_) => at,
         Reading::HeaderOnly(header) => put_read(out, at, position, bytes, header, 0),
         Reading::Observed(header, count, _) => put_read(out, at, position, bytes, header, count),
@@ -151,14 +151,13 @@ fn put_row(out: &mut [u8], at: usize, position: u64, head: Header, observed: Obs
     put_number(out, next, units::since_lock(lock).number(), b'\n')
 }
 
-// The rows of all observations of the message at a position.
+// The rows of all observations of the message at a position: a message has 255 at most.
 pub fn put_rows(out: &mut [u8], at: usize, position: u64, message: &[u8]) -> usize
     ensures { λ r. ⌜ Puts (now (out .entry)) at (rowsText position (now (message .entry))) r (now (out .exit)) ⌝ }
 {
     let mut next = at;
     for index in 0..255 {
-        let reading = macm::read(message, index);
-        let Reading::Observed(header, _, observation) = reading else {
+        let Reading::Observed(header, _, observation) = macm::read(message, index) else {
             return next;
         };
         next = put_row(out, next, position, header, observation);

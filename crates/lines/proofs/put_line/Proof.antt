@@ -11,14 +11,14 @@ read-requires c κs = search needs
 enum-told : tie.Need-enum-told
 enum-told c = search needs
 
-enum-known-reading : tie.Need-enum-known-reading
-enum-known-reading c = search needs
+enum-known-header : tie.Need-enum-known-header
+enum-known-header c = search needs
 
 put-read-requires : tie.Need-put-read-requires
 put-read-requires c κs = search needs
 
-enum-known-reading-2 : tie.Need-enum-known-reading-2
-enum-known-reading-2 c = search needs
+enum-known-header-2 : tie.Need-enum-known-header-2
+enum-known-header-2 c = search needs
 
 put-read-requires-2 : tie.Need-put-read-requires-2
 put-read-requires-2 c κs = search needs
@@ -30,13 +30,13 @@ same-length : tie.Need-same-length
 same-length c = search needs
 
 returns-2 : tie.Need-returns-2
-returns-2 c = rw (sym (c .before .before .before .before .before .before .before .read .ensures) ∙ c .before .before .before .before .before .reading .given .1) (c .before .before .put-read .ensures)
+returns-2 c = rw (sym (c .before .before .before .before .before .before .before .read .ensures) ∙ c .before .before .before .before .before .header .given .1) (c .before .before .put-read .ensures)
 
 same-length-2 : tie.Need-same-length-2
 same-length-2 c = search needs
 
 returns-3 : tie.Need-returns-3
-returns-3 c = rw (sym (c .before .before .before .before .before .before .before .read .ensures) ∙ c .before .before .before .before .before .reading2 .given .1) (c .before .before .put-read2 .ensures)
+returns-3 c = rw (sym (c .before .before .before .before .before .before .before .read .ensures) ∙ c .before .before .before .before .before .header2 .given .1) (c .before .before .put-read2 .ensures)
 
 pub put-line-spec : {M : Type 1} → statement M
 put-line-spec =
@@ -44,9 +44,9 @@ put-line-spec =
     (tie.spec
     read-requires
     enum-told
-    enum-known-reading
+    enum-known-header
     put-read-requires
-    enum-known-reading-2
+    enum-known-header-2
     put-read-requires-2
     returns
     same-length

@@ -26,8 +26,8 @@ loop-holds c = (omega arith, omega arith, (λ h. omega arith), puts-none _ _)
 read-requires : tie.Need-read-requires Inv-loop μ-loop
 read-requires c κs = search needs
 
-enum-known-reading : tie.Need-enum-known-reading Inv-loop μ-loop
-enum-known-reading c = search needs
+enum-known-header : tie.Need-enum-known-header Inv-loop μ-loop
+enum-known-header c = search needs
 
 same-length : tie.Need-same-length Inv-loop μ-loop
 same-length c = puts-length (c .before .before .before .loop .inv .3)
@@ -54,7 +54,7 @@ unfolding rowsUpTo
 loop-again c =
     let m = c .before .before .before .before .before .before .before .before .before .before .before .before .args .message .now in
     let l = c .before .before .before .before .before .before .before .before .before .loop in
-    let told = sym (c .before .before .before .before .before .before .before .read .ensures) ∙ c .before .before .before .before .before .reading .given .1 in
+    let told = sym (c .before .before .before .before .before .before .before .read .ensures) ∙ c .before .before .before .before .before .header .given .1 in
     let there = rw (told) at (counted m (l .index)) in
     let fits = c .before .before .before .before .known-told .given .1 .0 in
     (omega arith, omega (arith, there .0), (λ h. omega (arith, there .1, fits)), rw (add-one, told) (puts-join (l .inv .3) (c .before .before .put-row .ensures)))
@@ -78,7 +78,7 @@ put-rows-spec =
     μ-loop
     loop-holds
     read-requires
-    enum-known-reading
+    enum-known-header
     same-length
     returns
     put-row-requires
