@@ -1,19 +1,21 @@
--- Bytes that move in the window: appended, shifted, cleared, laid. Assumes nothing.
+-- Bytes that move: appended, shifted, cleared, copied; and what is handed over and taken by them. Assumes nothing.
 use Prim.Native.Nat.{ℕ, _+_, _-_, _≤_, _<_}
-use mathlib.Core.Path.{_≡_, sym, ap, _∙_}
+use mathlib.Core.Path.{_≡_, refl, sym, ap, _∙_}
 use mathlib.Core.List.{List, [], _++_, append-assoc, append-nil}
 use native.Mathlib.Nat.{zero-add, le-antisymm}
 use native.Mathlib.Numerals.{add-one}
 use native.Mathlib.Omega.{arith}
-use lib.ListN.{length, getD, set, take, drop, replicate, length-drop, take-append-drop, drop-of-length-le}
-use lib.Seq.{paste, paste-suc, take-paste, length-paste, length-paste-head, length-take-le, take-length, take-all, take-take, drop-drop, getD-append-add, getD-drop}
+use lib.ListN.{length, getD, set, take, drop, replicate, length-append, length-drop, take-append-drop, drop-of-length-le}
+use lib.Seq.{paste, paste-suc, take-paste, length-paste, length-paste-head, length-take-le, take-length, take-all, take-take, take-append-le, drop-drop, getD-append-add, getD-drop}
 use Rattle.octets.specs.Parts.{over}
 use Rattle.octets.proofs.Parts.{drop-take}
+use Rattle.front.specs.Look.{need}
+use Rattle.front.proofs.Bounds.{need-most}
 use Rattle.stream.specs.Reader.{laid}
-use Rattle.stream.specs.Steps.{Gave}
+use Rattle.stream.specs.Steps.{Pulled, Gave}
 
 -- ---- a part that goes to the end
-tail : (b : List ℕ) (at : ℕ) → take (length b - at) (drop at b) ≡ drop at b
+pub tail : (b : List ℕ) (at : ℕ) → take (length b - at) (drop at b) ≡ drop at b
 tail b at = take-all (length b - at) (drop at b) (omega (arith, length-drop at b))
 
 nothing-behind : (b : List ℕ) (at : ℕ) → drop (length b - at) (drop at b) ≡ []
@@ -52,29 +54,31 @@ shift-end w₀ w from n i a b e = e ∙ ap (paste w₀ 0 (drop from w₀)) (le-a
 pub shift-none : (w : List ℕ) (from n : ℕ) → from ≡ 0 → w ≡ paste w 0 (drop from w) n
 shift-none w from n z = rw (z, zero-add n) (sym (take-append-drop n w))
 
+module _ (from n : ℕ) (w w₁ : List ℕ) (fits : from + n ≤ length w) (e : w₁ ≡ paste w 0 (drop from w) n) where
+  pub shift-front : take n w₁ ≡ take n (drop from w)
+  shift-front = ap (take n) e ∙ ap (λ i. take i (paste w 0 (drop from w) n)) (sym (zero-add n)) ∙ take-paste w 0 (drop from w) n (omega arith) (omega (arith, length-drop from w))
+
+  pub shift-same : length w₁ ≡ length w
+  shift-same = ap length e ∙ length-paste w 0 (drop from w) n (omega arith) (omega (arith, length-drop from w))
+
 -- ---- bytes at the front, zeros behind them
-pub laid-front : (h w w₁ w₂ : List ℕ) → length h ≤ length w → w₁ ≡ paste w 0 h (length h) → w₂ ≡ take (length h) w₁ ++ replicate (length w₁ - length h) 0 → w₂ ≡ laid h w
-unfolding laid
-laid-front h w w₁ w₂ l p q =
-    let same : length w₁ ≡ length w = ap length p ∙ length-paste w 0 h (length h) (omega arith) (omega arith) in
-    let front : take (length h) w₁ ≡ h
-    = ap (take (length h)) p ∙ ap (λ m. take m (paste w 0 h (length h))) (sym (zero-add (length h))) ∙ take-paste w 0 h (length h) (omega arith) (omega arith) ∙ take-length h in
-    q ∙ rw (front, same)
-
-pub laid-same : (h w w₁ : List ℕ) → length w₁ ≡ length w → laid h w₁ ≡ laid h w
-unfolding laid
-laid-same h w w₁ e = rw e
-
 pub laid-take : (h : ℕ) (w w₁ w₂ : List ℕ) → h ≤ length w₁ → length w₁ ≡ length w → w₂ ≡ take h w₁ ++ replicate (length w₁ - h) 0 → w₂ ≡ laid (take h w₁) w
 unfolding laid
 laid-take h w w₁ w₂ l e v = v ∙ rw (length-take-le h w₁ l, e)
 
--- ---- a message handed over
-paste-over : (s o : List ℕ) → paste o 0 s (length s) ≡ over s o
-paste-over s o = rw (take-length s) (ap (λ n. s ++ drop n o) (zero-add (length s)))
+-- ---- bytes copied over the front of a buffer
+module _ (s t t′ : List ℕ) (fits : length s ≤ length t) (e : t′ ≡ over (take (length t) s) t) where
+  pub copied : t′ ≡ over s t
+  copied = e ∙ ap (λ r. over r t) (take-all (length t) s fits)
 
--- the bytes from a to h, whichever way they are cut
-middle : (a h : ℕ) (w : List ℕ) → a ≤ h → drop a (take h w) ≡ take (h - a) (drop a w)
+  pub copied-front : take (length s) t′ ≡ s
+  copied-front = ap (take (length s)) copied ∙ take-append-le (length s) s (drop (length s) t) (omega arith) ∙ take-length s
+
+  pub copied-same : length t′ ≡ length t
+  copied-same = omega (arith, ap length copied, length-append s (drop (length s) t), length-drop (length s) t)
+
+-- ---- a message handed over: the bytes from a to h, whichever way they are cut
+pub middle : (a h : ℕ) (w : List ℕ) → a ≤ h → drop a (take h w) ≡ take (h - a) (drop a w)
 middle a h w l = let z : a + (h - a) ≡ h = omega arith in ap (λ n. drop a (take n w)) (sym z) ∙ drop-take a (h - a) w
 
 message-part : (k n h : ℕ) (w : List ℕ) → k + n ≤ h → take n (drop k (take h w)) ≡ take (k + n - k) (drop k w)
@@ -82,31 +86,62 @@ message-part k n h w l =
     let z : k + n - k ≡ n = omega arith in
     ap (take n) (middle k h w (omega arith)) ∙ take-take n (h - k) (drop k w) (omega arith) ∙ rw z
 
-rest-part : (k n h : ℕ) (w : List ℕ) → k + n ≤ h → drop n (drop k (take h w)) ≡ take (h - (k + n)) (drop (k + n) w)
-rest-part k n h w l = drop-drop n k (take h w) ∙ middle (k + n) h w (omega arith)
-
 -- from the window itself
-pub gave-held : (k n h : ℕ) (w o o′ w₁ w₂ : List ℕ) → k + n ≤ h → h ≤ length w
-    → o′ ≡ paste o 0 (take (k + n - k) (drop k w)) (length (take (k + n - k) (drop k w)))
+pub gave-held : (k n h : ℕ) (w o o′ w₁ : List ℕ) → k + n ≤ h → h ≤ length w → n ≤ length o
+    → o′ ≡ over (take (length o) (take (k + n - k) (drop k w))) o
     → w₁ ≡ paste w 0 (drop (k + n) w) (h - (k + n))
-    → w₂ ≡ take (h - (k + n)) w₁ ++ replicate (length w₁ - (h - (k + n))) 0
-    → Gave k n (take h w) w o w₂ o′
-unfolding laid
-gave-held k n h w o o′ w₁ w₂ inside within p q r =
-    let m = h - (k + n) in
-    let cut : take m w₁ ≡ take m (drop (k + n) w) =
-    ap (take m) q ∙ ap (λ i. take i (paste w 0 (drop (k + n) w) m)) (sym (zero-add m)) ∙ take-paste w 0 (drop (k + n) w) m (omega arith) (omega (arith, length-drop (k + n) w)) in
-    let same : length w₁ ≡ length w = ap length q ∙ length-paste w 0 (drop (k + n) w) m (omega arith) (omega (arith, length-drop (k + n) w)) in
-    let rest : drop n (drop k (take h w)) ≡ take m w₁ = rest-part k n h w inside ∙ sym cut in
+    → Gave k n (take h w) w o (h - (k + n)) w₁ o′
+gave-held k n h w o o′ w₁ inside within room p q =
+    let size : length (take (k + n - k) (drop k w)) ≡ k + n - k = length-take-le (k + n - k) (drop k w) (omega (arith, length-drop k w)) in
     record {
-      window = r ∙ rw (rest, length-take-le m w₁ (omega (arith, same)), same);
-      output = p ∙ paste-over (take (k + n - k) (drop k w)) o ∙ ap (λ l. over l o) (sym (message-part k n h w inside));
+      count = rw (length-take-le h w within);
+      window = shift-front (k + n) (h - (k + n)) w w₁ (omega arith) q ∙ sym (drop-drop n k (take h w) ∙ middle (k + n) h w inside);
+      same = shift-same (k + n) (h - (k + n)) w w₁ (omega arith) q;
+      output = copied (take (k + n - k) (drop k w)) o o′ (omega arith) p ∙ ap (λ l. over l o) (sym (message-part k n h w inside));
     }
 
 -- from a piece
-pub gave-piece : (k n e : ℕ) (q w o w′ o′ : List ℕ) → k + n ≤ e
-    → o′ ≡ paste o 0 (take (k + n - k) (drop k q)) (length (take (k + n - k) (drop k q)))
-    → w′ ≡ laid (take (e - (k + n)) (drop (k + n) q)) w
-    → Gave k n (take e q) w o w′ o′
-gave-piece k n e q w o w′ o′ inside p r =
-    record { window = r ∙ ap (λ h. laid h w) (sym (rest-part k n e q inside)); output = p ∙ paste-over (take (k + n - k) (drop k q)) o ∙ ap (λ l. over l o) (sym (message-part k n e q inside)) }
+pub gave-piece : (k n : ℕ) (q w o w′ o′ : List ℕ) → k + n ≤ length q → length q - (k + n) ≤ length w → n ≤ length o
+    → o′ ≡ over (take (length o) (take (k + n - k) (drop k q))) o
+    → w′ ≡ over (take (length w) (take (length q - (k + n)) (drop (k + n) q))) w
+    → Gave k n q w o (length q - (k + n)) w′ o′
+gave-piece k n q w o w′ o′ inside within room p r =
+    let z : k + n - k ≡ n = omega arith in
+    let m : take (k + n - k) (drop k q) ≡ take n (drop k q) = rw z in
+    let size : length (take (k + n - k) (drop k q)) ≡ k + n - k = length-take-le (k + n - k) (drop k q) (omega (arith, length-drop k q)) in
+    let rest : take (length q - (k + n)) (drop (k + n) q) ≡ drop n (drop k q) = tail q (k + n) ∙ sym (drop-drop n k q) in
+    let left : length (take (length q - (k + n)) (drop (k + n) q)) ≡ length q - (k + n) = length-take-le (length q - (k + n)) (drop (k + n) q) (omega (arith, length-drop (k + n) q)) in
+    record {
+      count = refl;
+      window = ap (λ i. take i w′) (sym left) ∙ copied-front (take (length q - (k + n)) (drop (k + n) q)) w w′ (omega arith) r ∙ rest;
+      same = copied-same (take (length q - (k + n)) (drop (k + n) q)) w w′ (omega arith) r;
+      output = copied (take (k + n - k) (drop k q)) o o′ (omega arith) p ∙ ap (λ l. over l o) m;
+    }
+
+-- ---- the bytes at an unsettled position go to the front, and bytes of the piece behind them
+module _ (from n : ℕ) (w p w₁ : List ℕ) (fits : (from + n ≤ length w) × (6136 ≤ length w) × (n < need (take n (drop from w)))) (e : w₁ ≡ paste w 0 (drop from w) n) where
+  front : take n w₁ ≡ take n (drop from w)
+  front = shift-front from n w w₁ (fits .0) e
+
+  pub pull-fits : n ≤ length w₁
+  pull-fits = omega (arith, shift-same from n w w₁ (fits .0) e)
+
+  pub pull-open : length (take n w₁) < need (take n w₁)
+  pull-open = rw (length-take-le n w₁ pull-fits, front) (fits .2)
+
+  pub pulled : (c : ℕ) (w₂ : List ℕ) → (length (take n w₁) + c ≤ need (take n w₁)) × (c ≤ length p) × (c ≡ 0 → length p ≡ 0)
+      → w₂ ≡ over (take (length (take (length w₁ - n) (drop n w₁))) (take c p)) (take (length w₁ - n) (drop n w₁))
+      → Pulled n (take n (drop from w)) w p c (take n w₁ ++ (w₂ ++ drop (length w₁ - n) (drop n w₁)))
+  pulled c w₂ h f =
+      let t : length (take c p) ≡ c = length-take-le c p (h .1) in
+      let same : length w₁ ≡ length w = shift-same from n w w₁ (fits .0) e in
+      let few : n + c ≤ need (take n (drop from w)) = rw (length-take-le n w₁ pull-fits, front) at (h .0) in
+      let room : n + length (take c p) ≤ length w₁ = omega (arith, need-most (take n (drop from w))) in
+      let put = appended (take c p) w₁ w₂ n room f in
+      record {
+        bytes = ap (take (n + c)) put ∙ ap (λ i. take (n + i) (paste w₁ n (take c p) (length (take c p)))) (sym t) ∙ take-paste w₁ n (take c p) (length (take c p)) pull-fits (omega arith) ∙ rw (front, take-length (take c p));
+        same = ap length put ∙ length-paste w₁ n (take c p) (length (take c p)) room (omega arith) ∙ same;
+        within = h .1;
+        fewest = few;
+        all = h .2;
+      }

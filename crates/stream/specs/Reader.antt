@@ -64,23 +64,17 @@ pub record Leaves (c : Call) (r : Reply) (w o : List ℕ) : Type 0 where
 unfoldable pub laid : List ℕ → List ℕ → List ℕ
 laid h w = h ++ replicate (length w - length h) 0
 
--- after a message: its length, the gap before it, the bytes taken; the gap count is zero
-abbrev pub givenReply : State → ℕ → ℕ → ℕ → ℕ → ℕ → Reply
-givenReply s held length gap taken ended = record { answer = Message length gap taken; state = record { held = held; gap = 0; total = s .total + taken; ended = ended } }
-
-abbrev pub moreReply : State → ℕ → ℕ → ℕ → Reply
-moreReply s held gap taken = record { answer = NeedsMore; state = record { held = held; gap = gap; total = s .total + taken; ended = 0 } }
-
 -- a refusal gives the state back unchanged and changes no lent byte
 abbrev pub refusal : Refusal → State → List ℕ → List ℕ → Call
 refusal r s w o = record { answer = Refused r; state = s; window = w; output = o }
 
-abbrev pub called : Reply → List ℕ → List ℕ → Call
-called r w o = record { answer = r .answer; state = r .state; window = w; output = o }
-
+-- a message with its length, the gap before it and the bytes taken, after which no gap stands; or all of the piece is taken
 abbrev pub fedCall : State → List ℕ → List ℕ → List ℕ → Fed → Call
-fedCall s w o p (given g m h q) = called (givenReply s (length h) (length m) g (length p - length q) 0) (laid h w) (over m o)
-fedCall s w o p (more g h) = called (moreReply s (length h) g (length p)) (laid h w) o
+fedCall s w o p (given g m h q) =
+    let taken = length p - length q in
+    record { answer = Message (length m) g taken; state = record { held = length h; gap = 0; total = s .total + taken; ended = 0 }; window = laid h w; output = over m o }
+fedCall s w o p (more g h) =
+    record { answer = NeedsMore; state = record { held = length h; gap = g; total = s .total + length p; ended = 0 }; window = laid h w; output = o }
 
 abbrev pub feedBy : Gate → State → List ℕ → List ℕ → List ℕ → Call
 feedBy (Shut r) s p w o = refusal r s w o
@@ -91,7 +85,8 @@ feedCall s p w o = feedBy (feedChecked s (length w) (length o) (length p)) s p w
 
 -- finishing marks the end; at the end nothing is held, and the gap count stays for the calls after it
 abbrev pub finishedCall : State → List ℕ → List ℕ → Fed → Call
-finishedCall s w o (given g m h q) = called (givenReply s (length h) (length m) g 0 1) (laid h w) (over m o)
+finishedCall s w o (given g m h q) =
+    record { answer = Message (length m) g 0; state = record { held = length h; gap = 0; total = s .total; ended = 1 }; window = laid h w; output = over m o }
 finishedCall s w o (more g h) =
     record { answer = End g; state = record { held = length h; gap = g; total = s .total; ended = 1 }; window = laid h w; output = o }
 

@@ -7,29 +7,32 @@ use Rattle.stream.proofs.give_from.Tie as tie
 add-end : tie.Need-add-end
 add-end c = search needs
 
-sub-append : tie.Need-sub-append
-sub-append c = search needs
+sub-copy : tie.Need-sub-copy
+sub-copy c = search needs
 
-part-append-start : tie.Need-part-append-start
-part-append-start c = search needs
+part-copy-start : tie.Need-part-copy-start
+part-copy-start c = search needs
 
-part-append-end : tie.Need-part-append-end
-part-append-end c = search needs
+part-copy-end : tie.Need-part-copy-end
+part-copy-end c = search needs
 
-append-requires : tie.Need-append-requires
-append-requires c κs = search needs
+copy-requires : tie.Need-copy-requires
+copy-requires c κs = search needs
 
-sub-lay : tie.Need-sub-lay
-sub-lay c = search needs
+sub-copy-2 : tie.Need-sub-copy-2
+sub-copy-2 c = search needs
 
-part-lay-start : tie.Need-part-lay-start
-part-lay-start c = search needs
+part-copy-start-2 : tie.Need-part-copy-start-2
+part-copy-start-2 c = search needs
 
-part-lay-end : tie.Need-part-lay-end
-part-lay-end c = search needs
+part-copy-end-2 : tie.Need-part-copy-end-2
+part-copy-end-2 c = search needs
 
-lay-requires : tie.Need-lay-requires
-lay-requires c κs = search needs
+copy-requires-2 : tie.Need-copy-requires-2
+copy-requires-2 c κs = search needs
+
+sub-result : tie.Need-sub-result
+sub-result c = search needs
 
 same-length : tie.Need-same-length
 same-length c = search needs
@@ -39,25 +42,24 @@ same-length-2 c = search needs
 
 returns : tie.Need-returns
 returns c =
-    let rest = c .before .before in
-    let put = rest .before .before .before .before .before in
-    let start = put .before .before .before .before .before .before in
+    let start = c .before .before .before .before .before .before .before .before .before .before .before .before .before in
     let x = start .args in
-    gave-piece (x .at) (x .size) (x .reach) (x .piece .now) (x .window .now) (x .output .now) _ _ (start .pre .0) (put .append .ensures) (rest .lay .ensures)
+    gave-piece (x .at) (x .size) (x .bytes .now) (x .window .now) (x .output .now) _ _ (start .pre .0) (start .pre .1) (start .pre .2) (c .before .before .before .before .before .before .before .copy .ensures) (c .before .before .copy2 .ensures)
 
 pub give-from-spec : {M : Type 1} → statement M
 give-from-spec =
     tie.close
     (tie.spec
     add-end
-    sub-append
-    part-append-start
-    part-append-end
-    append-requires
-    sub-lay
-    part-lay-start
-    part-lay-end
-    lay-requires
+    sub-copy
+    part-copy-start
+    part-copy-end
+    copy-requires
+    sub-copy-2
+    part-copy-start-2
+    part-copy-end-2
+    copy-requires-2
+    sub-result
     same-length
     same-length-2
     returns)
