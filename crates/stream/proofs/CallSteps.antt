@@ -8,7 +8,7 @@ use native.Mathlib.Omega.{arith}
 use lib.ListN.{length, take, drop, replicate, length-drop}
 use lib.Seq.{length-take-le}
 use lib.Dec.{ltb, eqb}
-use borrow.Author.Tests.{lt-ltb, le-ltb, ltb-false, eq-eqb, ne-eqb}
+use borrow.Author.Tests.{lt-ltb, le-ltb, ltb-true, ltb-false, eq-eqb, ne-eqb}
 use Rattle.refusal.specs.declared.Refusal.{Refusal}
 use Rattle.refusal.specs.declared.Refusal.the-variants.{SmallBuffer, BadState, Ended, TooMuch}
 use Rattle.stream.specs.declared.State.{State}
@@ -20,9 +20,28 @@ use Rattle.stream.specs.declared.Outcome.{Outcome}
 use Rattle.stream.specs.declared.Outcome.the-variants.{Message, Nothing}
 use Rattle.stream.specs.Scan.{scan}
 use Rattle.stream.specs.Feed.{Fed, fed, feed, finish}
-use Rattle.stream.specs.Reader.{room, limit, laid, checked, feedCheckedBy, feedChecked, Call, Leaves, fedCall, feedCall, finishedCall, finishCall}
+use Rattle.stream.specs.Reader.{room, limit, bad, laid, checked, feedCheckedBy, feedChecked, Call, Leaves, fedCall, feedCall, finishedCall, finishCall}
 use Rattle.stream.specs.Steps.{Allowed, Given, CameTo, replyTo, callBy}
 use Rattle.stream.proofs.WindowSteps.{laid-take}
+
+-- ---- a bad state
+pub sums-test : (held gap total : ℕ) → gap ≤ total → ltb (total - gap) held ≡ ltb total (gap + held)
+sums-test held gap total l = go (ltb (total - gap) held) refl
+  where
+    go : (b : Bool) → ltb (total - gap) held ≡ b → b ≡ ltb total (gap + held)
+    go true e = sym (lt-ltb total (gap + held) (omega (arith, ltb-true (total - gap) held e)))
+    go false e = sym (le-ltb total (gap + held) (omega (arith, ltb-false (total - gap) held e)))
+
+pub bad-false : (held gap total : ℕ) → bad held gap total ≡ false → (held ≤ room) × (total ≤ limit) × (gap + held ≤ total)
+bad-false held gap total = go (ltb room held) refl (ltb limit total) refl
+  where
+    clash : true ≡ false → ⊥
+    clash z = let y : _≡_ {A = ℕ} 0 1 = cc in omega arith
+
+    go : (a : Bool) → ltb room held ≡ a → (b : Bool) → ltb limit total ≡ b → cond a true (cond b true (ltb total (gap + held))) ≡ false → (held ≤ room) × (total ≤ limit) × (gap + held ≤ total)
+    go true x b y z = absurd (clash z)
+    go false x true y z = absurd (clash z)
+    go false x false y z = (ltb-false room held x, ltb-false limit total y, ltb-false total (gap + held) z)
 
 -- ---- the checks, test by test
 module _ (s : State) (w o p : ℕ) where
@@ -36,37 +55,23 @@ module _ (s : State) (w o p : ℕ) where
     small-output b = rw (le-ltb w room a, lt-ltb o room b)
 
     module _ (b : room ≤ o) where
-      pub much-held : room < s .held → Shut BadState ≡ feedChecked s w o p
+      pub is-bad : bad (s .held) (s .gap) (s .total) ≡ true → Shut BadState ≡ feedChecked s w o p
       unfolding checked feedChecked feedCheckedBy
-      much-held c = rw (le-ltb w room a, le-ltb o room b, lt-ltb room (s .held) c)
+      is-bad c = rw (le-ltb w room a, le-ltb o room b, c)
 
-      module _ (c : s .held ≤ room) where
-        pub much-taken : limit < s .total → Shut BadState ≡ feedChecked s w o p
+      module _ (c : bad (s .held) (s .gap) (s .total) ≡ false) where
+        pub has-ended : (s .ended ≡ 0 → ⊥) → Shut Ended ≡ feedChecked s w o p
         unfolding checked feedChecked feedCheckedBy
-        much-taken d = rw (le-ltb w room a, le-ltb o room b, le-ltb room (s .held) c, lt-ltb limit (s .total) d)
+        has-ended n = rw (le-ltb w room a, le-ltb o room b, c, ne-eqb (s .ended) 0 n)
 
-        module _ (d : s .total ≤ limit) where
-          pub not-added : s .total < s .gap + s .held → Shut BadState ≡ feedChecked s w o p
+        module _ (n : s .ended ≡ 0) where
+          pub too-much : limit < s .total + p → Shut TooMuch ≡ feedChecked s w o p
           unfolding checked feedChecked feedCheckedBy
-          not-added e = rw (le-ltb w room a, le-ltb o room b, le-ltb room (s .held) c, le-ltb limit (s .total) d, lt-ltb (s .total) (s .gap + s .held) e)
+          too-much l = rw (le-ltb w room a, le-ltb o room b, c, eq-eqb (s .ended) 0 n, lt-ltb limit (s .total + p) l)
 
-          module _ (e : s .gap + s .held ≤ s .total) where
-            all-right : checked s w o ≡ Open
-            unfolding checked
-            all-right = rw (le-ltb w room a, le-ltb o room b, le-ltb room (s .held) c, le-ltb limit (s .total) d, le-ltb (s .total) (s .gap + s .held) e)
-
-            pub has-ended : (s .ended ≡ 0 → ⊥) → Shut Ended ≡ feedChecked s w o p
-            unfolding feedChecked feedCheckedBy
-            has-ended n = rw (all-right, ne-eqb (s .ended) 0 n)
-
-            module _ (n : s .ended ≡ 0) where
-              pub too-much : limit < s .total + p → Shut TooMuch ≡ feedChecked s w o p
-              unfolding feedChecked feedCheckedBy
-              too-much l = rw (all-right, eq-eqb (s .ended) 0 n, lt-ltb limit (s .total + p) l)
-
-              pub goes-on : s .total + p ≤ limit → Open ≡ feedChecked s w o p
-              unfolding feedChecked feedCheckedBy
-              goes-on l = rw (all-right, eq-eqb (s .ended) 0 n, le-ltb limit (s .total + p) l)
+          pub goes-on : s .total + p ≤ limit → Open ≡ feedChecked s w o p
+          unfolding checked feedChecked feedCheckedBy
+          goes-on l = rw (le-ltb w room a, le-ltb o room b, c, eq-eqb (s .ended) 0 n, le-ltb limit (s .total + p) l)
 
 -- ---- and back: what an open gate has
 opens : (t : Bool) (r : Refusal) (k : Gate) → cond t (Shut r) k ≡ Open → (t ≡ false) × (k ≡ Open)
@@ -78,11 +83,8 @@ unfolding checked
 checked-open s w o e =
     let a = opens (ltb w room) SmallBuffer _ e in
     let b = opens (ltb o room) SmallBuffer _ (a .1) in
-    let c = opens (ltb room (s .held)) BadState _ (b .1) in
-    let d = opens (ltb limit (s .total)) BadState _ (c .1) in
-    let f = opens (ltb (s .total) (s .gap + s .held)) BadState _ (d .1) in
-    let g = ltb-false limit (s .total) (d .0) in
-    record { window = ltb-false _ _ (a .0); output = ltb-false _ _ (b .0); held = ltb-false _ _ (c .0); sums = ltb-false _ _ (f .0); fits = omega arith }
+    let c = bad-false (s .held) (s .gap) (s .total) (opens (bad (s .held) (s .gap) (s .total)) BadState _ (b .1) .0) in
+    record { window = ltb-false _ _ (a .0); output = ltb-false _ _ (b .0); held = c .0; sums = c .2; fits = omega arith }
 
 module _ (s : State) (w o p : ℕ) where
   pub feed-allowed : feedChecked s w o p ≡ Open → Allowed s w o p
@@ -101,6 +103,9 @@ module _ (s : State) (w o p : ℕ) where
               let b = opens (ltb limit (s .total + p)) TooMuch _ e in
               record { window = a .window; output = a .output; held = a .held; sums = a .sums; fits = ltb-false _ _ (b .0) }
           test false e = absurd (let z : _≡_ {A = ℕ} 0 1 = cc in omega arith)
+
+pub allowed-fits : (s : State) (w o p : ℕ) → Allowed s w o p → (s .held ≤ room) × (room ≤ w) × (room ≤ o) × (s .gap + s .held + p < 2 ^ 62)
+allowed-fits s w o p a = (a .held, a .window, a .output, omega (arith, a .sums, a .fits))
 
 -- a finish is checked as a feed of nothing before the end
 pub finish-checked : (s : State) (w o : ℕ) → feedChecked (record { held = s .held; gap = s .gap; total = s .total; ended = 0 }) w o 0 ≡ checked s w o
@@ -160,15 +165,15 @@ module _ (s : State) (p w o : List ℕ) (d : Fed) (w₁ w₂ o₁ : List ℕ) (r
         let y : t ≡ 0 = c .1 ∙ n in
         rw (c .0) (record { reply = q ∙ rw (y, add-zero (s .total)) (sym (rw kept-on)); window = clean-on z; output = c .4 })
 
-pub call-goes : (e : Bool) (s : State) (p w o : List ℕ) (x : Outcome) (w₁ w₂ o₁ : List ℕ) (r : Reply) (g : Gate) → g ≡ Open → (e ≡ true → length p ≡ 0)
-    → CameTo (fed p (scan e (take (s .held) w) (s .gap))) p w o x w₁ o₁ → (r ≡ replyTo (s .total) e x) × (w₂ ≡ take (r .state .held) w₁ ++ replicate (length w₁ - r .state .held) 0)
+pub call-goes : (e : Bool) (s : State) (p w o : List ℕ) (x : Outcome) (w₁ o₁ w₂ : List ℕ) (r : Reply) (g : Gate) → g ≡ Open → (e ≡ true → length p ≡ 0)
+    → CameTo (fed p (scan e (take (s .held) w) (s .gap))) p w o x w₁ o₁ → r ≡ replyTo (s .total) e x → w₂ ≡ take (r .state .held) w₁ ++ replicate (length w₁ - r .state .held) 0
     → Leaves (callBy e g s p w o) r w₂ o₁
 unfolding feed finish
-call-goes false s p w o (Message n a t h) w₁ w₂ o₁ r g z y c q = rw z (fed-message s p w o _ w₁ w₂ o₁ r (q .1) n a t h c (q .0))
-call-goes false s p w o (Nothing a t h) w₁ w₂ o₁ r g z y c q = rw z (fed-nothing s p w o _ w₁ w₂ o₁ r (q .1) a t h c (q .0))
-call-goes true s (b ∷ p) w o x w₁ w₂ o₁ r g z y c q = absurd (let n : length (b ∷ p) ≡ 0 = y refl in omega arith)
-call-goes true s [] w o (Message n a t h) w₁ w₂ o₁ r g z y c q = rw z (finished-message s [] w o _ w₁ w₂ o₁ r (q .1) n a t h c refl (q .0))
-call-goes true s [] w o (Nothing a t h) w₁ w₂ o₁ r g z y c q = rw z (finished-nothing s [] w o _ w₁ w₂ o₁ r (q .1) a t h c refl (q .0))
+call-goes false s p w o (Message n a t h) w₁ o₁ w₂ r g z y c q v = rw z (fed-message s p w o _ w₁ w₂ o₁ r v n a t h c q)
+call-goes false s p w o (Nothing a t h) w₁ o₁ w₂ r g z y c q v = rw z (fed-nothing s p w o _ w₁ w₂ o₁ r v a t h c q)
+call-goes true s (b ∷ p) w o x w₁ o₁ w₂ r g z y c q v = absurd (let n : length (b ∷ p) ≡ 0 = y refl in omega arith)
+call-goes true s [] w o (Message n a t h) w₁ o₁ w₂ r g z y c q v = rw z (finished-message s [] w o _ w₁ w₂ o₁ r v n a t h c refl q)
+call-goes true s [] w o (Nothing a t h) w₁ o₁ w₂ r g z y c q v = rw z (finished-nothing s [] w o _ w₁ w₂ o₁ r v a t h c refl q)
 
 -- ---- as the public calls have it
 pub fed-leaves : (s : State) (p w o : List ℕ) (r : Reply) (w′ o′ : List ℕ) → Leaves (callBy false (feedChecked s (length w) (length o) (length p)) s p w o) r w′ o′ → Leaves (feedCall s p w o) r w′ o′
@@ -179,3 +184,6 @@ pub finished-leaves : (s : State) (w o : List ℕ) (r : Reply) (w′ o′ : List
     → Leaves (callBy true (feedChecked (record { held = s .held; gap = s .gap; total = s .total; ended = 0 }) (length w) (length o) 0) s [] w o) r w′ o′ → Leaves (finishCall s w o) r w′ o′
 unfolding finishCall
 finished-leaves s w o r w′ o′ h = rw (finish-checked s (length w) (length o)) at h
+
+pub feeds-on : (P : Type 0) → false ≡ true → P
+feeds-on P z = absurd (let y : _≡_ {A = ℕ} 0 1 = cc in omega arith)

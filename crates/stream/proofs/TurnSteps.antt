@@ -6,7 +6,9 @@ use mathlib.Core.List.{List, [], _∷_, _++_, append-nil}
 use native.Mathlib.Nat.{add-zero}
 use native.Mathlib.Omega.{arith}
 use lib.ListN.{length, take, drop, length-append, length-drop, take-append-drop}
-use lib.Seq.{length-take-le, take-all, drop-drop}
+use lib.Seq.{paste, length-take-le, drop-drop}
+use mir.Syntax.{w64}
+use mir.Val.{Fits}
 use Rattle.octets.specs.Parts.{over}
 use Rattle.front.specs.declared.Claim.{Claim}
 use Rattle.front.specs.declared.Claim.the-variants.{Nothing as NoClaim, AtLeast, Long}
@@ -21,12 +23,12 @@ use Rattle.stream.specs.declared.Outcome.{Outcome}
 use Rattle.stream.specs.declared.Outcome.the-variants.{Message, Nothing}
 use Rattle.stream.specs.Scan.{got, stop, scan}
 use Rattle.stream.specs.Feed.{Fed, fed, feed, given, more}
-use Rattle.stream.specs.Steps.{Pulled, Gave, Given, CameTo}
+use Rattle.stream.specs.Steps.{Pulled, Given, CameTo}
 use Rattle.stream.proofs.ScanLaws.{scan-open-at, scan-empty-at}
 use Rattle.stream.proofs.FeedLaws.{fed-bulk}
 use Rattle.stream.proofs.WalkScan.{found-message, found-none}
 use Rattle.stream.proofs.Reach.{FedMessage, fed-message, FedMore, fed-more}
-use Rattle.stream.proofs.WindowSteps.{tail, copied-front, copied-same, middle}
+use Rattle.stream.proofs.WindowSteps.{tail, copied-front, copied-same, middle, Gave, gave-held, gave-piece}
 
 -- ---- what the first position needs
 pub need-is : (s : List ℕ) (c : Claim) (n : ℕ) → claim s ≡ c → n ≡ needBy c → n ≡ need s
@@ -67,29 +69,37 @@ came-given d p w₀ w o k n g t xs l w′ o′ e inside within room same v =
 
 -- ---- the piece divided in place, by where the walk over the rest of it stops
 module _ (g t : ℕ) (p w o : List ℕ) (fits : (t ≤ length p) × (6136 ≤ length w) × (6136 ≤ length o) × (g + length p < 2 ^ 63)) (r : Walked) (z : r ≡ walkOf false (take (length p - t) (drop t p)) 0 0) where
-  pub rest-long : length (take (length p - t) (drop t p)) ≡ length p - t
+  rest-long : length (take (length p - t) (drop t p)) ≡ length p - t
   rest-long = ap length (tail p t) ∙ length-drop t p
 
   module _ (k n e : ℕ) (q : r ≡ AtMessage k n e) where
     found : FedMessage (take (length p - t) (drop t p)) k n e
     found = fed-message (take (length p - t) (drop t p)) r z k n e q
 
+    pub place-end : k + n ≤ e
+    place-end = found .inside
+
     pub place-reach : e ≤ length (take (length p - t) (drop t p))
     place-reach = found .within
 
-    pub place-sums : (g + k < 2 ^ 63) × (t + e ≤ length p)
-    place-sums = (omega (arith, found .inside, found .within, rest-long), omega (arith, found .within, rest-long))
+    reaches : t + e ≤ length p
+    reaches = omega (arith, found .within, rest-long)
 
-    pub place-fits : (k + n ≤ length (take e (take (length p - t) (drop t p)))) × (length (take e (take (length p - t) (drop t p))) - (k + n) ≤ length w) × (n ≤ length o)
-    place-fits = rw (length-take-le e (take (length p - t) (drop t p)) place-reach) (found .inside, omega (arith, found .held), omega (arith, found .size))
+    pub place-sums : Fits w64 (g + k) × Fits w64 (t + e) × Fits w64 (k + n) × (k + n ≤ length (take (length p - t) (drop t p)))
+    place-sums =
+        (record { fits = omega (arith, reaches, found .inside) }, record { fits = omega (arith, reaches) }, record { fits = omega (arith, reaches, found .inside) }, omega (arith, found .inside, found .within))
 
-    pub place-given : (l : ℕ) (w′ o′ : List ℕ) → Gave k n (take e (take (length p - t) (drop t p))) w o l w′ o′ → Given (feed [] g (drop t p)) p w o n (g + k) (t + e) l w′ o′
-    place-given l w′ o′ v =
+    pub place-given : (w′ o′ : List ℕ) → o′ ≡ over (take (length o) (take (k + n - k) (drop k (take (length p - t) (drop t p))))) o
+        → w′ ≡ over (take (length w) (take (e - (k + n)) (drop (k + n) (take (length p - t) (drop t p))))) w
+        → Given (feed [] g (drop t p)) p w o n (g + k) (t + e) (e - (k + n)) w′ o′
+    place-given w′ o′ u v =
         let xs : List ℕ = take e (take (length p - t) (drop t p)) in
         let behind : drop e (take (length p - t) (drop t p)) ≡ drop (t + e) p = ap (drop e) (tail p t) ∙ drop-drop e t p in
         let d : feed [] g (drop t p) ≡ given (g + k) (take n (drop k xs)) (drop n (drop k xs)) (drop (t + e) p) =
         ap (feed [] g) (sym (tail p t)) ∙ found .feeds g ∙ ap (given (g + k) (take n (drop k xs)) (drop n (drop k xs))) behind in
-        came-given (feed [] g (drop t p)) p w w o k n (g + k) (t + e) xs l w′ o′ d (place-fits .0) (place-sums .1) (place-fits .1) refl v
+        let long : length xs ≡ e = length-take-le e (take (length p - t) (drop t p)) place-reach in
+        let gave = gave-piece k n e (take (length p - t) (drop t p)) w o w′ o′ place-end place-reach (omega (arith, found .held)) (omega (arith, found .size)) u v in
+        came-given (feed [] g (drop t p)) p w w o k n (g + k) (t + e) xs (e - (k + n)) w′ o′ d (omega (arith, place-end)) reaches (omega (arith, found .held)) refl gave
 
   module _ (k : ℕ) (q : r ≡ Unsettled k) where
     open-at : FedMore (take (length p - t) (drop t p)) k
@@ -97,6 +107,9 @@ module _ (g t : ℕ) (p w o : List ℕ) (fits : (t ≤ length p) × (6136 ≤ le
 
     pub place-within : k ≤ length (take (length p - t) (drop t p))
     place-within = open-at .within
+
+    pub place-gap : Fits w64 (g + k)
+    place-gap = record { fits = omega (arith, open-at .within, rest-long) }
 
     pub place-more : (w′ : List ℕ) → w′ ≡ over (take (length w) (take (length (take (length p - t) (drop t p)) - k) (drop k (take (length p - t) (drop t p))))) w
         → CameTo (feed [] g (drop t p)) p w o (Nothing (g + k) (length p) (length (take (length p - t) (drop t p)) - k)) w′ o
@@ -151,68 +164,93 @@ same-came d d′ p w w₀ o o₀ (Message n g t h) w′ o′ e s i c =
     record { message = c .message; is = e ∙ c .is; size = c .size; within = c .within; held = omega (arith, c .held); same = c .same ∙ s; output = c .output ∙ ap (over (c .message)) i }
 same-came d d′ p w w₀ o o₀ (Nothing g t h) w′ o′ e s i c = (e ∙ c .0, c .1, omega arith, c .3 ∙ s, c .4 ∙ i)
 
-module _ (e : Bool) (h₀ g₀ : ℕ) (w₀ o₀ p : List ℕ) (h g t : ℕ) (w o : List ℕ) (f : Filling e h₀ g₀ w₀ o₀ p h g t w o) (large : 6136 ≤ length w₀) (r : Walked) (z : r ≡ walkOf e (take h w) 0 0) where
-  length-held : length (take h w) ≡ h
-  length-held = length-take-le h w (omega (arith, f .same, f .room))
+module _ (e : Bool) (h₀ g₀ : ℕ) (w₀ o₀ p : List ℕ) (h g t : ℕ) (w o : List ℕ) (f : Filling e h₀ g₀ w₀ o₀ p h g t w o) (fits : (h₀ ≤ 6136) × (6136 ≤ length w₀) × (6136 ≤ length o₀) × (g₀ + h₀ + length p < 2 ^ 62)) where
+  pub filling-held : h ≤ length w
+  filling-held = omega (arith, f .same, f .room)
 
-  abbrev Come : Fed
-  Come = fed p (scan e (take h₀ w₀) g₀)
+  module _ (r : Walked) (z : r ≡ walkOf e (take h w) 0 0) where
+    length-held : length (take h w) ≡ h
+    length-held = length-take-le h w filling-held
 
-  pub turn-inside : (k n u : ℕ) → r ≡ AtMessage k n u → k + n ≤ h
-  turn-inside k n u q = let m = found-message e (take h w) r z k n u q in omega (arith, m .counted, m .within, length-held)
+    abbrev Come : Fed
+    Come = fed p (scan e (take h₀ w₀) g₀)
 
-  pub turn-given : (k n u l : ℕ) (w′ o′ : List ℕ) → r ≡ AtMessage k n u → Gave k n (take h w) w o l w′ o′ → CameTo Come p w₀ o₀ (Message n (g + k) t l) w′ o′
-  turn-given k n u l w′ o′ q v =
-      let m = found-message e (take h w) r z k n u q in
-      let y : m .ahead ≡ k = omega (arith, m .counted) in
-      let s : scan e (take h w) g ≡ got (g + k) n (drop k (take h w)) = m .is g ∙ rw y in
-      same-came Come Come p w₀ w₀ o o₀ (Message n (g + k) t l) w′ o′ refl refl (f .output)
-      (came-given Come p w₀ w o k n (g + k) t (take h w) l w′ o′ (f .feeds ∙ ap (fed (drop t p)) s ∙ fed-got _ _ _ _) (omega (arith, turn-inside k n u q, length-held)) (f .within) (omega (arith, length-held, f .room)) (f .same) v)
+    module _ (k n u : ℕ) (q : r ≡ AtMessage k n u) where
+      pub turn-inside : k + n ≤ h
+      turn-inside = let m = found-message e (take h w) r z k n u q in omega (arith, m .counted, m .within, length-held)
 
-  module _ (k : ℕ) (q : r ≡ Unsettled k) where
-    stops : scan e (take h w) g ≡ stop (g + k) (drop k (take h w))
-    stops = let m = found-none e (take h w) r z k q in let y : m .ahead ≡ k = omega (arith, m .counted) in m .is g ∙ rw y
+      pub turn-ends : Fits w64 (k + n) × (k + n ≤ length w) × (k + n + (h - (k + n)) ≤ length w) × Fits w64 (g + k)
+      turn-ends =
+          (record { fits = omega (arith, turn-inside, f .room) }, omega (arith, turn-inside, filling-held), omega (arith, turn-inside, filling-held), record { fits = omega (arith, turn-inside, f .sums, f .within) })
 
-    pub turn-within : k ≤ h
-    turn-within = let m = found-none e (take h w) r z k q in omega (arith, m .counted, m .within, length-held)
+      pub turn-given : (w′ o′ : List ℕ) → o′ ≡ over (take (length o) (take (k + n - k) (drop k w))) o → w′ ≡ paste w 0 (drop (k + n) w) (h - (k + n)) → CameTo Come p w₀ o₀ (Message n (g + k) t (h - (k + n))) w′ o′
+      turn-given w′ o′ a b =
+          let m = found-message e (take h w) r z k n u q in
+          let y : m .ahead ≡ k = omega (arith, m .counted) in
+          let s : scan e (take h w) g ≡ got (g + k) n (drop k (take h w)) = m .is g ∙ rw y in
+          let v = gave-held k n h w o o′ w′ turn-inside filling-held (omega (arith, turn-inside, f .room, f .same-output)) a b in
+          same-came Come Come p w₀ w₀ o o₀ (Message n (g + k) t (h - (k + n))) w′ o′ refl refl (f .output)
+          (came-given Come p w₀ w o k n (g + k) t (take h w) (h - (k + n)) w′ o′ (f .feeds ∙ ap (fed (drop t p)) s ∙ fed-got _ _ _ _) (omega (arith, turn-inside, length-held)) (f .within) (omega (arith, length-held, f .room)) (f .same) v)
 
-    length-left : length (drop k (take h w)) ≡ h - k
-    length-left = omega (arith, length-drop k (take h w), length-held)
+    module _ (k : ℕ) (q : r ≡ Unsettled k) where
+      stops : scan e (take h w) g ≡ stop (g + k) (drop k (take h w))
+      stops = let m = found-none e (take h w) r z k q in let y : m .ahead ≡ k = omega (arith, m .counted) in m .is g ∙ rw y
 
-    pub turn-place : h - k ≡ 0 → (x : Outcome) (w′ o′ : List ℕ) → CameTo (feed [] (g + k) (drop t p)) p w o x w′ o′ → CameTo Come p w₀ o₀ x w′ o′
-    turn-place n x w′ o′ c =
-        let d : Come ≡ feed [] (g + k) (drop t p) = f .feeds ∙ ap (fed (drop t p)) (stops ∙ ap (stop (g + k)) (none (drop k (take h w)) (length-left ∙ n))) ∙ fed-none (drop t p) (g + k) in
-        same-came (feed [] (g + k) (drop t p)) Come p w w₀ o o₀ x w′ o′ d (f .same) (f .output) c
+      pub turn-within : k ≤ h
+      turn-within = let m = found-none e (take h w) r z k q in omega (arith, m .counted, m .within, length-held)
 
-    module _ (n : h - k ≡ 0 → ⊥) where
-      opened : (e ≡ false) × (length (drop k (take h w)) < need (drop k (take h w)))
-      opened = open-left e (take h w) g (g + k) (drop k (take h w)) stops (λ y. n (sym length-left ∙ y))
+      pub turn-gap : Fits w64 (g + k)
+      turn-gap = record { fits = omega (arith, turn-within, f .sums, f .within) }
 
-      pub turn-wants : h - k < need (take (h - k) (drop k w))
-      turn-wants = rw (← middle k h w turn-within) (omega (arith, opened .1, length-left))
+      pub turn-place-fits : (t ≤ length p) × (6136 ≤ length w) × (6136 ≤ length o) × (g + k + length p < 2 ^ 63)
+      turn-place-fits = (f .within, omega (arith, f .same), omega (arith, f .same-output), omega (arith, turn-within, f .sums, f .within))
 
-      module _ (c : ℕ) (w′ : List ℕ) (v : Pulled (h - k) (take (h - k) (drop k w)) w (take (length p - t) (drop t p)) c w′) where
-        on : Pulled (h - k) (drop k (take h w)) w (drop t p) c w′
-        on = rw (middle k h w turn-within) (rw (tail p t) at v)
+      length-left : length (drop k (take h w)) ≡ h - k
+      length-left = omega (arith, length-drop k (take h w), length-held)
 
-        pub turn-more : c ≡ 0 → CameTo Come p w₀ o₀ (Nothing (g + k) t (h - k)) w′ o
-        turn-more y =
-            let u : drop t p ≡ [] = none (drop t p) (on .all y) in
-            let b : take (h - k) w′ ≡ drop k (take h w) = rw (y, add-zero (h - k)) at (on .bytes) ∙ append-nil (drop k (take h w)) in
-            (f .feeds ∙ ap (fed (drop t p)) stops ∙ rw u (fed-nil _ _) ∙ ap (more (g + k)) (sym b), omega (arith, length-drop t p, ap length u, f .within), omega (arith, f .room), on .same ∙ f .same, f .output)
+      pub turn-place : h - k ≡ 0 → (x : Outcome) (w′ o′ : List ℕ) → CameTo (feed [] (g + k) (drop t p)) p w o x w′ o′ → CameTo Come p w₀ o₀ x w′ o′
+      turn-place n x w′ o′ c =
+          let d : Come ≡ feed [] (g + k) (drop t p) = f .feeds ∙ ap (fed (drop t p)) (stops ∙ ap (stop (g + k)) (none (drop k (take h w)) (length-left ∙ n))) ∙ fed-none (drop t p) (g + k) in
+          same-came (feed [] (g + k) (drop t p)) Come p w w₀ o o₀ x w′ o′ d (f .same) (f .output) c
 
-        pub turn-on : (c ≡ 0 → ⊥) → Filling e h₀ g₀ w₀ o₀ p (h - k + c) (g + k) (t + c) w′ o
-        turn-on y =
-            let a : length (take c (drop t p)) ≡ c = length-take-le c (drop t p) (on .within) in
-            let m : drop k (take h w) ++ take c (drop t p) ≡ take (h - k + c) w′ = sym (on .bytes) in
-            let b : fed (take c (drop t p) ++ drop c (drop t p)) (stop (g + k) (drop k (take h w))) ≡ fed (drop c (drop t p)) (scan false (drop k (take h w) ++ take c (drop t p)) (g + k)) =
-            fed-bulk (take c (drop t p)) (drop c (drop t p)) (drop k (take h w)) (g + k) (need (drop k (take h w))) (look-wait (drop k (take h w))) (omega (arith, y)) (omega (arith, length-append (drop k (take h w)) (take c (drop t p)), length-left, on .fewest)) in
-            record {
-              within = omega (arith, on .within, length-drop t p, f .within);
-              room = omega (arith, on .fewest, need-most (drop k (take h w)));
-              same = on .same ∙ f .same;
-              sums = omega (arith, f .sums, turn-within);
-              feeds = f .feeds ∙ ap (fed (drop t p)) stops ∙ rw take-append-drop at b ∙ rw (m, opened .0, drop-drop c t p);
-              output = f .output;
-              same-output = f .same-output;
-            }
+      module _ (n : h - k ≡ 0 → ⊥) where
+        opened : (e ≡ false) × (length (drop k (take h w)) < need (drop k (take h w)))
+        opened = open-left e (take h w) g (g + k) (drop k (take h w)) stops (λ y. n (sym length-left ∙ y))
+
+        wants : h - k < need (take (h - k) (drop k w))
+        wants = rw (← middle k h w turn-within) (omega (arith, opened .1, length-left))
+
+        pub turn-pull-fits : (k + (h - k) ≤ length w) × (6136 ≤ length w) × (h - k < need (take (h - k) (drop k w))) × (t ≤ length p)
+        turn-pull-fits = (omega (arith, turn-within, filling-held), omega (arith, f .same), wants, f .within)
+
+        module _ (c : ℕ) (w′ : List ℕ) (v : Pulled (h - k) (take (h - k) (drop k w)) w (drop t p) c w′) where
+          on : Pulled (h - k) (drop k (take h w)) w (drop t p) c w′
+          on = rw (middle k h w turn-within) v
+
+          pub turn-more : c ≡ 0 → CameTo Come p w₀ o₀ (Nothing (g + k) t (h - k)) w′ o
+          turn-more y =
+              let u : drop t p ≡ [] = none (drop t p) (on .all y) in
+              let b : take (h - k) w′ ≡ drop k (take h w) = rw (y, add-zero (h - k)) at (on .bytes) ∙ append-nil (drop k (take h w)) in
+              (f .feeds ∙ ap (fed (drop t p)) stops ∙ rw u (fed-nil _ _) ∙ ap (more (g + k)) (sym b), omega (arith, length-drop t p, ap length u, f .within), omega (arith, f .room), on .same ∙ f .same, f .output)
+
+          pub turn-on : (c ≡ 0 → ⊥) → Filling e h₀ g₀ w₀ o₀ p (h - k + c) (g + k) (t + c) w′ o
+          turn-on y =
+              let a : length (take c (drop t p)) ≡ c = length-take-le c (drop t p) (on .within) in
+              let m : drop k (take h w) ++ take c (drop t p) ≡ take (h - k + c) w′ = sym (on .bytes) in
+              let b : fed (take c (drop t p) ++ drop c (drop t p)) (stop (g + k) (drop k (take h w))) ≡ fed (drop c (drop t p)) (scan false (drop k (take h w) ++ take c (drop t p)) (g + k)) =
+              fed-bulk (take c (drop t p)) (drop c (drop t p)) (drop k (take h w)) (g + k) (need (drop k (take h w))) (look-wait (drop k (take h w))) (omega (arith, y)) (omega (arith, length-append (drop k (take h w)) (take c (drop t p)), length-left, on .fewest)) in
+              record {
+                within = omega (arith, on .within, length-drop t p, f .within);
+                room = omega (arith, on .fewest, need-most (drop k (take h w)));
+                same = on .same ∙ f .same;
+                sums = omega (arith, f .sums, turn-within);
+                feeds = f .feeds ∙ ap (fed (drop t p)) stops ∙ rw take-append-drop at b ∙ rw (m, opened .0, drop-drop c t p);
+                output = f .output;
+                same-output = f .same-output;
+              }
+
+          pub turn-on-fits : (c ≡ 0 → ⊥) → Fits w64 (h - k + c) × Fits w64 (t + c)
+          turn-on-fits y = let n = turn-on y in (record { fits = omega (arith, n .room) }, record { fits = omega (arith, n .within) })
+
+          pub turn-less : (c ≡ 0 → ⊥) → length p - (t + c) < length p - t
+          turn-less y = let n = turn-on y in omega (arith, n .within, y)

@@ -12,7 +12,7 @@ use Rattle.octets.proofs.Parts.{drop-take}
 use Rattle.front.specs.Look.{need}
 use Rattle.front.proofs.Bounds.{need-most}
 use Rattle.stream.specs.Reader.{laid}
-use Rattle.stream.specs.Steps.{Pulled, Gave}
+use Rattle.stream.specs.Steps.{Pulled}
 
 -- ---- a part that goes to the end
 pub tail : (b : List ℕ) (at : ℕ) → take (length b - at) (drop at b) ≡ drop at b
@@ -86,40 +86,48 @@ message-part k n h w l =
     let z : k + n - k ≡ n = omega arith in
     ap (take n) (middle k h w (omega arith)) ∙ take-take n (h - k) (drop k w) (omega arith) ∙ rw z
 
+-- a message of n bytes, k bytes on in the bytes xs, stands at the front of the output, and the h bytes behind it at the front of the window
+pub record Gave (k n : ℕ) (xs w o : List ℕ) (h : ℕ) (w′ o′ : List ℕ) : Type 0 where
+  pub count : h ≡ length xs - (k + n)
+  pub window : take h w′ ≡ drop n (drop k xs)
+  pub same : length w′ ≡ length w
+  pub output : o′ ≡ over (take n (drop k xs)) o
+
+gave-output : (k n h : ℕ) (xs o o′ : List ℕ) → k + n ≤ h → h ≤ length xs → n ≤ length o → o′ ≡ over (take (length o) (take (k + n - k) (drop k xs))) o → o′ ≡ over (take n (drop k (take h xs))) o
+gave-output k n h xs o o′ inside within room p =
+    let size : length (take (k + n - k) (drop k xs)) ≡ k + n - k = length-take-le (k + n - k) (drop k xs) (omega (arith, length-drop k xs)) in
+    copied (take (k + n - k) (drop k xs)) o o′ (omega arith) p ∙ ap (λ l. over l o) (sym (message-part k n h xs inside))
+
 -- from the window itself
 pub gave-held : (k n h : ℕ) (w o o′ w₁ : List ℕ) → k + n ≤ h → h ≤ length w → n ≤ length o
     → o′ ≡ over (take (length o) (take (k + n - k) (drop k w))) o
     → w₁ ≡ paste w 0 (drop (k + n) w) (h - (k + n))
     → Gave k n (take h w) w o (h - (k + n)) w₁ o′
 gave-held k n h w o o′ w₁ inside within room p q =
-    let size : length (take (k + n - k) (drop k w)) ≡ k + n - k = length-take-le (k + n - k) (drop k w) (omega (arith, length-drop k w)) in
     record {
       count = rw (length-take-le h w within);
       window = shift-front (k + n) (h - (k + n)) w w₁ (omega arith) q ∙ sym (drop-drop n k (take h w) ∙ middle (k + n) h w inside);
       same = shift-same (k + n) (h - (k + n)) w w₁ (omega arith) q;
-      output = copied (take (k + n - k) (drop k w)) o o′ (omega arith) p ∙ ap (λ l. over l o) (sym (message-part k n h w inside));
+      output = gave-output k n h w o o′ inside within room p;
     }
 
 -- from a piece
-pub gave-piece : (k n : ℕ) (q w o w′ o′ : List ℕ) → k + n ≤ length q → length q - (k + n) ≤ length w → n ≤ length o
+pub gave-piece : (k n e : ℕ) (q w o w′ o′ : List ℕ) → k + n ≤ e → e ≤ length q → e - (k + n) ≤ length w → n ≤ length o
     → o′ ≡ over (take (length o) (take (k + n - k) (drop k q))) o
-    → w′ ≡ over (take (length w) (take (length q - (k + n)) (drop (k + n) q))) w
-    → Gave k n q w o (length q - (k + n)) w′ o′
-gave-piece k n q w o w′ o′ inside within room p r =
-    let z : k + n - k ≡ n = omega arith in
-    let m : take (k + n - k) (drop k q) ≡ take n (drop k q) = rw z in
-    let size : length (take (k + n - k) (drop k q)) ≡ k + n - k = length-take-le (k + n - k) (drop k q) (omega (arith, length-drop k q)) in
-    let rest : take (length q - (k + n)) (drop (k + n) q) ≡ drop n (drop k q) = tail q (k + n) ∙ sym (drop-drop n k q) in
-    let left : length (take (length q - (k + n)) (drop (k + n) q)) ≡ length q - (k + n) = length-take-le (length q - (k + n)) (drop (k + n) q) (omega (arith, length-drop (k + n) q)) in
+    → w′ ≡ over (take (length w) (take (e - (k + n)) (drop (k + n) q))) w
+    → Gave k n (take e q) w o (e - (k + n)) w′ o′
+gave-piece k n e q w o w′ o′ inside within held room p r =
+    let rest : List ℕ = take (e - (k + n)) (drop (k + n) q) in
+    let left : length rest ≡ e - (k + n) = length-take-le (e - (k + n)) (drop (k + n) q) (omega (arith, length-drop (k + n) q)) in
     record {
-      count = refl;
-      window = ap (λ i. take i w′) (sym left) ∙ copied-front (take (length q - (k + n)) (drop (k + n) q)) w w′ (omega arith) r ∙ rest;
-      same = copied-same (take (length q - (k + n)) (drop (k + n) q)) w w′ (omega arith) r;
-      output = copied (take (k + n - k) (drop k q)) o o′ (omega arith) p ∙ ap (λ l. over l o) m;
+      count = rw (length-take-le e q within);
+      window = ap (λ i. take i w′) (sym left) ∙ copied-front rest w w′ (omega arith) r ∙ sym (drop-drop n k (take e q) ∙ middle (k + n) e q inside);
+      same = copied-same rest w w′ (omega arith) r;
+      output = gave-output k n e q o o′ inside within room p;
     }
 
 -- ---- the bytes at an unsettled position go to the front, and bytes of the piece behind them
-module _ (from n : ℕ) (w p w₁ : List ℕ) (fits : (from + n ≤ length w) × (6136 ≤ length w) × (n < need (take n (drop from w)))) (e : w₁ ≡ paste w 0 (drop from w) n) where
+module _ (from n t : ℕ) (w p w₁ : List ℕ) (fits : (from + n ≤ length w) × (6136 ≤ length w) × (n < need (take n (drop from w))) × (t ≤ length p)) (e : w₁ ≡ paste w 0 (drop from w) n) where
   front : take n w₁ ≡ take n (drop from w)
   front = shift-front from n w w₁ (fits .0) e
 
@@ -129,19 +137,21 @@ module _ (from n : ℕ) (w p w₁ : List ℕ) (fits : (from + n ≤ length w) ×
   pub pull-open : length (take n w₁) < need (take n w₁)
   pull-open = rw (length-take-le n w₁ pull-fits, front) (fits .2)
 
-  pub pulled : (c : ℕ) (w₂ : List ℕ) → (length (take n w₁) + c ≤ need (take n w₁)) × (c ≤ length p) × (c ≡ 0 → length p ≡ 0)
-      → w₂ ≡ over (take (length (take (length w₁ - n) (drop n w₁))) (take c p)) (take (length w₁ - n) (drop n w₁))
-      → Pulled n (take n (drop from w)) w p c (take n w₁ ++ (w₂ ++ drop (length w₁ - n) (drop n w₁)))
+  pub pulled : (c : ℕ) (w₂ : List ℕ) → (length (take n w₁) + c ≤ need (take n w₁)) × (c ≤ length p - t) × (c ≡ 0 → length p - t ≡ 0)
+      → w₂ ≡ over (take (length (take (length w₁ - n) (drop n w₁))) (take (t + c - t) (drop t p))) (take (length w₁ - n) (drop n w₁))
+      → Pulled n (take n (drop from w)) w (drop t p) c (take n w₁ ++ (w₂ ++ drop (length w₁ - n) (drop n w₁)))
   pulled c w₂ h f =
-      let t : length (take c p) ≡ c = length-take-le c p (h .1) in
+      let xs : List ℕ = take c (drop t p) in
+      let z : t + c - t ≡ c = omega arith in
+      let long : length xs ≡ c = length-take-le c (drop t p) (omega (arith, h .1, length-drop t p)) in
       let same : length w₁ ≡ length w = shift-same from n w w₁ (fits .0) e in
       let few : n + c ≤ need (take n (drop from w)) = rw (length-take-le n w₁ pull-fits, front) at (h .0) in
-      let room : n + length (take c p) ≤ length w₁ = omega (arith, need-most (take n (drop from w))) in
-      let put = appended (take c p) w₁ w₂ n room f in
+      let room : n + length xs ≤ length w₁ = omega (arith, need-most (take n (drop from w))) in
+      let put = appended xs w₁ w₂ n room (rw z at f) in
       record {
-        bytes = ap (take (n + c)) put ∙ ap (λ i. take (n + i) (paste w₁ n (take c p) (length (take c p)))) (sym t) ∙ take-paste w₁ n (take c p) (length (take c p)) pull-fits (omega arith) ∙ rw (front, take-length (take c p));
-        same = ap length put ∙ length-paste w₁ n (take c p) (length (take c p)) room (omega arith) ∙ same;
-        within = h .1;
+        bytes = ap (take (n + c)) put ∙ ap (λ i. take (n + i) (paste w₁ n xs (length xs))) (sym long) ∙ take-paste w₁ n xs (length xs) pull-fits (omega arith) ∙ rw (front, take-length xs);
+        same = ap length put ∙ length-paste w₁ n xs (length xs) room (omega arith) ∙ same;
+        within = omega (arith, h .1, length-drop t p);
         fewest = few;
-        all = h .2;
+        all = λ y. length-drop t p ∙ h .2 y;
       }

@@ -1,7 +1,7 @@
 -- The stream reader's calls: what each answers and leaves in the state, the window and the output, on every input. Definitions only.
 use Prim.Native.Nat.{ℕ, _+_, _-_, _^_}
 use mathlib.Core.Path.{_≡_}
-use mathlib.Core.Bool.{cond}
+use mathlib.Core.Bool.{Bool, true, cond}
 use mathlib.Core.List.{List, _++_}
 use lib.ListN.{length, take, replicate}
 use lib.Dec.{ltb, eqb}
@@ -27,14 +27,14 @@ abbrev pub freshState : State
 freshState = record { held = 0; gap = 0; total = 0; ended = 0 }
 
 -- ---- what is refused, in rising order
--- 8: window or output has fewer than 6,136 bytes; 9: a held count above 6,136, a total above 2 ^ 48, or gap + held above total
+-- a held count above 6,136, a total above 2 ^ 48, or gap + held above total
+abbrev pub bad : ℕ → ℕ → ℕ → Bool
+bad held gap total = cond (ltb room held) true (cond (ltb limit total) true (ltb total (gap + held)))
+
+-- 8: window or output has fewer than 6,136 bytes; 9: a bad state
 unfoldable pub checked : State → ℕ → ℕ → Gate
 checked s w o =
-    cond (ltb w room) (Shut SmallBuffer)
-    (cond (ltb o room) (Shut SmallBuffer)
-    (cond (ltb room (s .held)) (Shut BadState)
-    (cond (ltb limit (s .total)) (Shut BadState)
-    (cond (ltb (s .total) (s .gap + s .held)) (Shut BadState) Open))))
+    cond (ltb w room) (Shut SmallBuffer) (cond (ltb o room) (Shut SmallBuffer) (cond (bad (s .held) (s .gap) (s .total)) (Shut BadState) Open))
 
 -- 10: feed after the end was announced; 11: total + length of the offered piece is above 2 ^ 48
 unfoldable pub feedCheckedBy : Gate → State → ℕ → Gate

@@ -33,13 +33,6 @@ pub record Pulled (n : ℕ) (xs w p : List ℕ) (c : ℕ) (w′ : List ℕ) : Ty
   pub fewest : n + c ≤ need xs
   pub all : c ≡ 0 → length p ≡ 0
 
--- a message handed over from the bytes xs: it goes to the output, and the h bytes behind it to the front of the window
-pub record Gave (k n : ℕ) (xs w o : List ℕ) (h : ℕ) (w′ o′ : List ℕ) : Type 0 where
-  pub count : h ≡ length xs - (k + n)
-  pub window : take h w′ ≡ drop n (drop k xs)
-  pub same : length w′ ≡ length w
-  pub output : o′ ≡ over (take n (drop k xs)) o
-
 -- ---- what a call comes to: of the piece p, from the window w and the output o
 pub record Given (d : Fed) (p w o : List ℕ) (n g t h : ℕ) (w′ o′ : List ℕ) : Type 0 where
   pub message : List ℕ

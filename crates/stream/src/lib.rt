@@ -4,18 +4,17 @@ use division::Walked;
 use front::Claim;
 use refusal::Refusal;
 ghost use mathlib.Core.Path.{_≡_};
-ghost use mathlib.Core.Logic.{_⊎_};
 ghost use mathlib.Core.Bool.{true};
-ghost use mathlib.Core.List.{[], _++_};
-ghost use Prim.Native.Nat.{ℕ, _+_, _-_, _^_, _<_, _≤_};
-ghost use lib.ListN.{length, take, drop, replicate};
+ghost use mathlib.Core.List.{[]};
+ghost use Prim.Native.Nat.{ℕ, _+_, _^_, _<_, _≤_};
+ghost use lib.ListN.{length, take, drop};
 ghost use lib.Seq.{paste};
 ghost use mir.Val.{boolByte};
 ghost use Rattle.front.specs.Look.{need};
 ghost use Rattle.stream.specs.Scan.{scan};
 ghost use Rattle.stream.specs.Feed.{fed, feed};
-ghost use Rattle.stream.specs.Reader.{freshState, feedChecked, feedCall, finishCall, Leaves};
-ghost use Rattle.stream.specs.Steps.{Pulled, Gave, CameTo, noMessage, replyTo, callBy};
+ghost use Rattle.stream.specs.Reader.{freshState, bad, feedChecked, feedCall, finishCall, Leaves};
+ghost use Rattle.stream.specs.Steps.{Pulled, CameTo, noMessage, replyTo, callBy};
 
 // The bytes held in the window, the gap bytes before them, all bytes taken, and whether the end was announced (0, or anything else).
 #[repr(C)]
@@ -55,6 +54,22 @@ enum Outcome {
 
 // ---- what is refused
 
+// A state that no call leaves.
+fn bad_state(held: usize, gap: usize, total: usize) -> bool
+    ensures { λ r. ⌜ r ≡ bad held gap total ⌝ }
+{
+    if 6136 < held {
+        return true;
+    }
+    if 281474976710656 < total {
+        return true;
+    }
+    if total < gap {
+        return true;
+    }
+    total - gap < held
+}
+
 // 8, 9, 10 and 11 in rising order. A finish is checked as a feed of no bytes for which no end was announced.
 fn checks(
     held: usize,
@@ -73,16 +88,7 @@ fn checks(
     if output < 6136 {
         return Gate::Refused(Refusal::SmallBuffer);
     }
-    if 6136 < held {
-        return Gate::Refused(Refusal::BadState);
-    }
-    if 281474976710656 < total {
-        return Gate::Refused(Refusal::BadState);
-    }
-    if total < gap {
-        return Gate::Refused(Refusal::BadState);
-    }
-    if total - gap < held {
+    if bad_state(held, gap, total) {
         return Gate::Refused(Refusal::BadState);
     }
     if ended != 0 {
@@ -111,29 +117,6 @@ fn shift(window: &mut [u8], from: usize, n: usize)
     }
 }
 
-// The message of `size` bytes at index `at` of the held ones goes to the output, and the bytes past it to the front of the window: so many.
-fn give(at: usize, size: usize, held: usize, window: &mut [u8], output: &mut [u8]) -> usize
-    requires { ⌜ (at + size ≤ held) × (held ≤ length (now window)) × (size ≤ length (now output)) ⌝ }
-    ensures { λ r. ⌜ Gave at size (take held (now (window .entry))) (now (window .entry)) (now (output .entry)) r (now (window .exit)) (now (output .exit)) ⌝ }
-{
-    let end = at + size;
-    octets::copy(&window[at..end], output);
-    let left = held - end;
-    shift(window, end, left);
-    left
-}
-
-// The same from bytes of a piece.
-fn give_from(bytes: &[u8], at: usize, size: usize, window: &mut [u8], output: &mut [u8]) -> usize
-    requires { ⌜ (at + size ≤ length (now bytes)) × (length (now bytes) - (at + size) ≤ length (now window)) × (size ≤ length (now output)) ⌝ }
-    ensures { λ r. ⌜ Gave at size (now (bytes .entry)) (now (window .entry)) (now (output .entry)) r (now (window .exit)) (now (output .exit)) ⌝ }
-{
-    let end = at + size;
-    octets::copy(&bytes[at..end], output);
-    octets::copy(&bytes[end..], window);
-    bytes.len() - end
-}
-
 // ---- a feed
 
 fn least(a: usize, b: usize) -> usize
@@ -159,14 +142,15 @@ fn wanted(held: &[u8], piece: usize) -> usize
 }
 
 // The n bytes from an unsettled position on go to the front of the window, and the bytes of the piece that they want behind them: so many.
-fn pull(from: usize, n: usize, window: &mut [u8], piece: &[u8]) -> usize
-    requires { ⌜ (from + n ≤ length (now window)) × (6136 ≤ length (now window)) × (n < need (take n (drop from (now window)))) ⌝ }
-    ensures { λ r. ⌜ Pulled n (take n (drop from (now (window .entry)))) (now (window .entry)) (now (piece .entry)) r (now (window .exit)) ⌝ }
+fn pull(from: usize, n: usize, taken: usize, piece: &[u8], window: &mut [u8]) -> usize
+    requires { ⌜ (from + n ≤ length (now window)) × (6136 ≤ length (now window)) × (n < need (take n (drop from (now window)))) × (taken ≤ length (now piece)) ⌝ }
+    ensures { λ r. ⌜ Pulled n (take n (drop from (now (window .entry)))) (now (window .entry)) (drop taken (now (piece .entry))) r (now (window .exit)) ⌝ }
 {
     shift(window, from, n);
-    let taken = wanted(&window[..n], piece.len());
-    octets::copy(&piece[..taken], &mut window[n..]);
-    taken
+    let more = wanted(&window[..n], piece.len() - taken);
+    let end = taken + more;
+    octets::copy(&piece[taken..end], &mut window[n..]);
+    more
 }
 
 // The rest of a feed once `taken` bytes of the piece are taken, nothing is held and `gap` bytes stand before: the piece is divided where it stands.
@@ -178,8 +162,10 @@ fn in_place(gap: usize, taken: usize, piece: &[u8], window: &mut [u8], output: &
     let walked = division::walk(false, rest);
     match walked {
         Walked::Message(at, length, reach) => {
-            let left = give_from(&rest[..reach], at, length, window, output);
-            Outcome::Message(length, gap + at, taken + reach, left)
+            let end = at + length;
+            octets::copy(&rest[at..end], output);
+            octets::copy(&rest[end..reach], window);
+            Outcome::Message(length, gap + at, taken + reach, reach - end)
         }
         Walked::Unsettled(at) => {
             octets::copy(&rest[at..], window);
@@ -191,8 +177,8 @@ fn in_place(gap: usize, taken: usize, piece: &[u8], window: &mut [u8], output: &
 // Turn after turn over the held bytes, until a message is settled, all of the piece is taken, or no byte is held and the piece can be divided.
 fn divide(
     ended: bool,
-    held: usize,
-    gap: usize,
+    mut held: usize,
+    mut gap: usize,
     piece: &[u8],
     window: &mut [u8],
     output: &mut [u8],
@@ -200,27 +186,28 @@ fn divide(
     requires { ⌜ (held ≤ 6136) × (6136 ≤ length (now window)) × (6136 ≤ length (now output)) × (gap + held + length (now piece) < 2 ^ 62) ⌝ }
     ensures { λ r. ⌜ CameTo (fed (now (piece .entry)) (scan ended (take held (now (window .entry))) gap)) (now (piece .entry)) (now (window .entry)) (now (output .entry)) r (now (window .exit)) (now (output .exit)) ⌝ }
 {
-    let mut here = held;
-    let mut before = gap;
     let mut taken = 0;
     loop {
-        let walked = division::walk(ended, &window[..here]);
+        let walked = division::walk(ended, &window[..held]);
         match walked {
             Walked::Message(at, length, _) => {
-                let left = give(at, length, here, window, output);
-                return Outcome::Message(length, before + at, taken, left);
+                let end = at + length;
+                let left = held - end;
+                octets::copy(&window[at..end], output);
+                shift(window, end, left);
+                return Outcome::Message(length, gap + at, taken, left);
             }
             Walked::Unsettled(at) => {
-                here = here - at;
-                before = before + at;
-                if here == 0 {
-                    return in_place(before, taken, piece, window, output);
+                held = held - at;
+                gap = gap + at;
+                if held == 0 {
+                    return in_place(gap, taken, piece, window, output);
                 }
-                let more = pull(at, here, window, &piece[taken..]);
+                let more = pull(at, held, taken, piece, window);
                 if more == 0 {
-                    return Outcome::Nothing(before, taken, here);
+                    return Outcome::Nothing(gap, taken, held);
                 }
-                here = here + more;
+                held = held + more;
                 taken = taken + more;
             }
         }
@@ -271,17 +258,6 @@ fn reply_of(total: usize, ended: bool, outcome: Outcome) -> Reply
     }
 }
 
-// Zeros stand behind the bytes held.
-fn leave(total: usize, ended: bool, outcome: Outcome, window: &mut [u8]) -> Reply
-    requires { ⌜ (replyTo total ended outcome .state .total < 2 ^ 64) × (replyTo total ended outcome .state .held ≤ length (now window)) ⌝ }
-    ensures { λ r. ⌜ (r ≡ replyTo total ended outcome) × (now (window .exit) ≡ take (r .state .held) (now (window .entry)) ++ replicate (length (now (window .entry)) - r .state .held) 0) ⌝ }
-{
-    let reply = reply_of(total, ended, outcome);
-    let held = reply.state.held as usize;
-    octets::clear(&mut window[held..]);
-    reply
-}
-
 // ---- the calls
 
 // A feed, or a finish of no bytes, for which no end counts as announced.
@@ -315,7 +291,11 @@ fn call(
         },
         Gate::Open => {
             let outcome = divide(ended, held, gap, piece, window, output);
-            leave(total, ended, outcome, window)
+            let reply = reply_of(total, ended, outcome);
+            let left = reply.state.held as usize;
+            // Zeros stand behind the bytes held.
+            octets::clear(&mut window[left..]);
+            reply
         }
     }
 }

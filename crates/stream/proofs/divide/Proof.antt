@@ -1,19 +1,18 @@
 -- `stream::divide` meets its contract: what is left of the call is the whole call. Assumes nothing.
 use Prim.Native.Nat.{_-_}
 use mathlib.Core.Path.{sym}
-use native.Mathlib.Omega.{arith}
 use lib.ListN.{length}
 use lib.Seq.{length-take-le}
-use Rattle.stream.proofs.TurnSteps.{Filling, filling-begins, turn-inside, turn-given, turn-within, turn-place, turn-wants, turn-more, turn-on}
+use Rattle.stream.proofs.TurnSteps.{Filling, filling-begins, filling-held, turn-inside, turn-ends, turn-given, turn-within, turn-gap, turn-place-fits, turn-place, turn-pull-fits, turn-more, turn-on, turn-on-fits, turn-less}
 use borrow.Author.Needs.{needs}
 use Rattle.stream.proofs.divide.Statement.{statement}
 use Rattle.stream.proofs.divide.Tie as tie
 
 abbrev Inv-loop : tie.InvT-loop
-Inv-loop ended held gap piece window₀ output₀ here₀ before₀ taken₀ window output here before taken = Filling ended held gap window₀ output₀ piece here before taken window output
+Inv-loop ended held₀ gap₀ piece window₀ output₀ taken₀ held gap window output taken = Filling ended held₀ gap₀ window₀ output₀ piece held gap taken window output
 
 abbrev μ-loop : tie.MeasureT-loop
-μ-loop ended held gap piece window₀ output₀ here₀ before₀ taken₀ window output here before taken = length piece - taken
+μ-loop ended held₀ gap₀ piece window₀ output₀ taken₀ held gap window output taken = length piece - taken
 
 loop-holds : tie.Need-loop-holds Inv-loop μ-loop
 loop-holds c =
@@ -25,7 +24,11 @@ slice-reshare-prefix-walk : tie.Need-slice-reshare-prefix-walk Inv-loop μ-loop
 slice-reshare-prefix-walk c = search needs
 
 slice-aggregate-walk : tie.Need-slice-aggregate-walk Inv-loop μ-loop
-slice-aggregate-walk c = sym (length-take-le _ _ (omega (arith, c .before .loop .inv, c .before .before .before .before .before .pre)))
+slice-aggregate-walk c =
+    let loop = c .before .loop in
+    let start = c .before .before .before .before .before in
+    let x = start .args in
+    sym (length-take-le _ _ (filling-held (x .ended) (x .held) (x .gap) (x .window .now) (x .output .now) (x .piece .now) (loop .held) (loop .gap) (loop .taken) (loop .window) (loop .output) (loop .inv) (start .pre)))
 
 walk-requires : tie.Need-walk-requires Inv-loop μ-loop
 walk-requires c κs = search needs
@@ -33,19 +36,49 @@ walk-requires c κs = search needs
 enum-known-walked : tie.Need-enum-known-walked Inv-loop μ-loop
 enum-known-walked c = search needs
 
-give-requires : tie.Need-give-requires Inv-loop μ-loop
-give-requires c κs =
-    let loop = c .before .before .before .before .before .before .before in
-    let start = c .before .before .before .before .before .before .before .before .before .before .before in
+add-end : tie.Need-add-end Inv-loop μ-loop
+add-end c =
+    let loop = c .before .before .before .before .before .loop in
+    let start = c .before .before .before .before .before .before .before .before .before in
     let x = start .args in
-    (turn-inside (x .ended) (x .held) (x .gap) (x .window .now) (x .output .now) (x .piece .now) (loop .loop .here) (loop .loop .before) (loop .loop .taken) (loop .loop .window) (loop .loop .output) (loop .loop .inv) (start .pre .1) _ (c .before .before .before .before .before .walk .ensures) _ _ _ (c .before .before .before .walked .given .1), omega (arith, loop .loop .inv, start .pre), omega (arith, turn-inside (x .ended) (x .held) (x .gap) (x .window .now) (x .output .now) (x .piece .now) (loop .loop .here) (loop .loop .before) (loop .loop .taken) (loop .loop .window) (loop .loop .output) (loop .loop .inv) (start .pre .1) _ (c .before .before .before .before .before .walk .ensures) _ _ _ (c .before .before .before .walked .given .1), loop .loop .inv, start .pre))
+    turn-ends (x .ended) (x .held) (x .gap) (x .window .now) (x .output .now) (x .piece .now) (loop .held) (loop .gap) (loop .taken) (loop .window) (loop .output) (loop .inv) (start .pre) _ (c .before .before .before .walk .ensures) _ _ _ (c .before .walked .given .1) .0
 
-add-t22 : tie.Need-add-t22 Inv-loop μ-loop
-add-t22 c =
-    let loop = c .before .before .before .before .before .before .before .before .before .before .before .before in
+sub-left : tie.Need-sub-left Inv-loop μ-loop
+sub-left c =
+    let loop = c .before .before .before .before .before .loop in
+    let start = c .before .before .before .before .before .before .before .before .before in
+    let x = start .args in
+    turn-inside (x .ended) (x .held) (x .gap) (x .window .now) (x .output .now) (x .piece .now) (loop .held) (loop .gap) (loop .taken) (loop .window) (loop .output) (loop .inv) (start .pre) _ (c .before .before .before .walk .ensures) _ _ _ (c .before .walked .given .1)
+
+sub-copy : tie.Need-sub-copy Inv-loop μ-loop
+sub-copy c = search needs
+
+part-copy-start : tie.Need-part-copy-start Inv-loop μ-loop
+part-copy-start c = search needs
+
+part-copy-end : tie.Need-part-copy-end Inv-loop μ-loop
+part-copy-end c =
+    let loop = c .before .before .before .before .before .before .loop in
+    let start = c .before .before .before .before .before .before .before .before .before .before in
+    let x = start .args in
+    turn-ends (x .ended) (x .held) (x .gap) (x .window .now) (x .output .now) (x .piece .now) (loop .held) (loop .gap) (loop .taken) (loop .window) (loop .output) (loop .inv) (start .pre) _ (c .before .before .before .before .walk .ensures) _ _ _ (c .before .before .walked .given .1) .1
+
+copy-requires : tie.Need-copy-requires Inv-loop μ-loop
+copy-requires c κs = search needs
+
+shift-requires : tie.Need-shift-requires Inv-loop μ-loop
+shift-requires c κs =
+    let loop = c .before .before .before .before .before .before .before .before .before .before .before .before .loop in
     let start = c .before .before .before .before .before .before .before .before .before .before .before .before .before .before .before .before in
     let x = start .args in
-    omega (arith, turn-inside (x .ended) (x .held) (x .gap) (x .window .now) (x .output .now) (x .piece .now) (loop .loop .here) (loop .loop .before) (loop .loop .taken) (loop .loop .window) (loop .loop .output) (loop .loop .inv) (start .pre .1) _ (c .before .before .before .before .before .before .before .before .before .before .walk .ensures) _ _ _ (c .before .before .before .before .before .before .before .before .walked .given .1), loop .loop .inv, start .pre)
+    turn-ends (x .ended) (x .held) (x .gap) (x .window .now) (x .output .now) (x .piece .now) (loop .held) (loop .gap) (loop .taken) (loop .window) (loop .output) (loop .inv) (start .pre) _ (c .before .before .before .before .before .before .before .before .before .before .walk .ensures) _ _ _ (c .before .before .before .before .before .before .before .before .walked .given .1) .2
+
+add-t19 : tie.Need-add-t19 Inv-loop μ-loop
+add-t19 c =
+    let loop = c .before .before .before .before .before .before .before .before .before .before .before .before .before .before .before .loop in
+    let start = c .before .before .before .before .before .before .before .before .before .before .before .before .before .before .before .before .before .before .before in
+    let x = start .args in
+    turn-ends (x .ended) (x .held) (x .gap) (x .window .now) (x .output .now) (x .piece .now) (loop .held) (loop .gap) (loop .taken) (loop .window) (loop .output) (loop .inv) (start .pre) _ (c .before .before .before .before .before .before .before .before .before .before .before .before .before .walk .ensures) _ _ _ (c .before .before .before .before .before .before .before .before .before .before .before .walked .given .1) .3
 
 same-length : tie.Need-same-length Inv-loop μ-loop
 same-length c = search needs
@@ -55,34 +88,34 @@ same-length-2 c = search needs
 
 returns : tie.Need-returns Inv-loop μ-loop
 returns c =
-    let loop = c .before .before .before .before .before .before .before .before .before .before .before .before in
-    let start = c .before .before .before .before .before .before .before .before .before .before .before .before .before .before .before .before in
+    let loop = c .before .before .before .before .before .before .before .before .before .before .before .before .before .before .before .loop in
+    let start = c .before .before .before .before .before .before .before .before .before .before .before .before .before .before .before .before .before .before .before in
     let x = start .args in
-    turn-given (x .ended) (x .held) (x .gap) (x .window .now) (x .output .now) (x .piece .now) (loop .loop .here) (loop .loop .before) (loop .loop .taken) (loop .loop .window) (loop .loop .output) (loop .loop .inv) (start .pre .1) _ (c .before .before .before .before .before .before .before .before .before .before .walk .ensures) _ _ _ _ _ _ (c .before .before .before .before .before .before .before .before .walked .given .1) (c .before .before .before .before .give .ensures)
+    turn-given (x .ended) (x .held) (x .gap) (x .window .now) (x .output .now) (x .piece .now) (loop .held) (loop .gap) (loop .taken) (loop .window) (loop .output) (loop .inv) (start .pre) _ (c .before .before .before .before .before .before .before .before .before .before .before .before .before .walk .ensures) _ _ _ (c .before .before .before .before .before .before .before .before .before .before .before .walked .given .1) _ _ (c .before .before .before .before .before .before .copy .ensures) (c .before .before .shift .ensures)
 
 enum-known-walked-2 : tie.Need-enum-known-walked-2 Inv-loop μ-loop
 enum-known-walked-2 c = search needs
 
-sub-here : tie.Need-sub-here Inv-loop μ-loop
-sub-here c =
-    let loop = c .before .before .before .before .before in
+sub-held : tie.Need-sub-held Inv-loop μ-loop
+sub-held c =
+    let loop = c .before .before .before .before .before .loop in
     let start = c .before .before .before .before .before .before .before .before .before in
     let x = start .args in
-    turn-within (x .ended) (x .held) (x .gap) (x .window .now) (x .output .now) (x .piece .now) (loop .loop .here) (loop .loop .before) (loop .loop .taken) (loop .loop .window) (loop .loop .output) (loop .loop .inv) (start .pre .1) _ (c .before .before .before .walk .ensures) _ (c .before .walked2 .given .1)
+    turn-within (x .ended) (x .held) (x .gap) (x .window .now) (x .output .now) (x .piece .now) (loop .held) (loop .gap) (loop .taken) (loop .window) (loop .output) (loop .inv) (start .pre) _ (c .before .before .before .walk .ensures) _ (c .before .walked2 .given .1)
 
-add-before : tie.Need-add-before Inv-loop μ-loop
-add-before c =
-    let loop = c .before .before .before .before .before in
+add-gap : tie.Need-add-gap Inv-loop μ-loop
+add-gap c =
+    let loop = c .before .before .before .before .before .loop in
     let start = c .before .before .before .before .before .before .before .before .before in
     let x = start .args in
-    omega (arith, turn-within (x .ended) (x .held) (x .gap) (x .window .now) (x .output .now) (x .piece .now) (loop .loop .here) (loop .loop .before) (loop .loop .taken) (loop .loop .window) (loop .loop .output) (loop .loop .inv) (start .pre .1) _ (c .before .before .before .walk .ensures) _ (c .before .walked2 .given .1), loop .loop .inv, start .pre)
+    turn-gap (x .ended) (x .held) (x .gap) (x .window .now) (x .output .now) (x .piece .now) (loop .held) (loop .gap) (loop .taken) (loop .window) (loop .output) (loop .inv) (start .pre) _ (c .before .before .before .walk .ensures) _ (c .before .walked2 .given .1)
 
 in-place-requires : tie.Need-in-place-requires Inv-loop μ-loop
 in-place-requires c κs =
-    let loop = c .before .before .before .before .before .before .before .before in
+    let loop = c .before .before .before .before .before .before .before .before .loop in
     let start = c .before .before .before .before .before .before .before .before .before .before .before .before in
     let x = start .args in
-    (loop .loop .inv .within, omega (arith, loop .loop .inv, start .pre), omega (arith, loop .loop .inv, start .pre), omega (arith, turn-within (x .ended) (x .held) (x .gap) (x .window .now) (x .output .now) (x .piece .now) (loop .loop .here) (loop .loop .before) (loop .loop .taken) (loop .loop .window) (loop .loop .output) (loop .loop .inv) (start .pre .1) _ (c .before .before .before .before .before .before .walk .ensures) _ (c .before .before .before .before .walked2 .given .1), loop .loop .inv, start .pre))
+    turn-place-fits (x .ended) (x .held) (x .gap) (x .window .now) (x .output .now) (x .piece .now) (loop .held) (loop .gap) (loop .taken) (loop .window) (loop .output) (loop .inv) (start .pre) _ (c .before .before .before .before .before .before .walk .ensures) _ (c .before .before .before .before .walked2 .given .1)
 
 same-length-3 : tie.Need-same-length-3 Inv-loop μ-loop
 same-length-3 c = search needs
@@ -92,26 +125,17 @@ same-length-4 c = search needs
 
 returns-2 : tie.Need-returns-2 Inv-loop μ-loop
 returns-2 c =
-    let loop = c .before .before .before .before .before .before .before .before .before .before .before .before .before in
+    let loop = c .before .before .before .before .before .before .before .before .before .before .before .before .before .loop in
     let start = c .before .before .before .before .before .before .before .before .before .before .before .before .before .before .before .before .before in
     let x = start .args in
-    turn-place (x .ended) (x .held) (x .gap) (x .window .now) (x .output .now) (x .piece .now) (loop .loop .here) (loop .loop .before) (loop .loop .taken) (loop .loop .window) (loop .loop .output) (loop .loop .inv) (start .pre .1) _ (c .before .before .before .before .before .before .before .before .before .before .before .walk .ensures) _ (c .before .before .before .before .before .before .before .before .before .walked2 .given .1) (c .before .before .before .before .before .before .before .if1 .taken) (c .before .before .before .before .in-place .result) (c .before .before .before .before .in-place .last .1 .1 .1 .0) (c .before .before .before .before .in-place .last .1 .1 .1 .1 .0) (c .before .before .before .before .in-place .ensures)
-
-sub-pull : tie.Need-sub-pull Inv-loop μ-loop
-sub-pull c = search needs
-
-part-pull-start : tie.Need-part-pull-start Inv-loop μ-loop
-part-pull-start c = search needs
-
-part-pull-end : tie.Need-part-pull-end Inv-loop μ-loop
-part-pull-end c = search needs
+    turn-place (x .ended) (x .held) (x .gap) (x .window .now) (x .output .now) (x .piece .now) (loop .held) (loop .gap) (loop .taken) (loop .window) (loop .output) (loop .inv) (start .pre) _ (c .before .before .before .before .before .before .before .before .before .before .before .walk .ensures) _ (c .before .before .before .before .before .before .before .before .before .walked2 .given .1) (c .before .before .before .before .before .before .before .if1 .taken) (c .before .before .before .before .in-place .result) (c .before .before .before .before .in-place .last .1 .1 .1 .0) (c .before .before .before .before .in-place .last .1 .1 .1 .1 .0) (c .before .before .before .before .in-place .ensures)
 
 pull-requires : tie.Need-pull-requires Inv-loop μ-loop
 pull-requires c κs =
-    let loop = c .before .before .before .before .before .before .before .before in
-    let start = c .before .before .before .before .before .before .before .before .before .before .before .before in
+    let loop = c .before .before .before .before .before .before .before .loop in
+    let start = c .before .before .before .before .before .before .before .before .before .before .before in
     let x = start .args in
-    (omega (arith, turn-within (x .ended) (x .held) (x .gap) (x .window .now) (x .output .now) (x .piece .now) (loop .loop .here) (loop .loop .before) (loop .loop .taken) (loop .loop .window) (loop .loop .output) (loop .loop .inv) (start .pre .1) _ (c .before .before .before .before .before .before .walk .ensures) _ (c .before .before .before .before .walked2 .given .1), loop .loop .inv, start .pre), omega (arith, loop .loop .inv, start .pre), turn-wants (x .ended) (x .held) (x .gap) (x .window .now) (x .output .now) (x .piece .now) (loop .loop .here) (loop .loop .before) (loop .loop .taken) (loop .loop .window) (loop .loop .output) (loop .loop .inv) (start .pre .1) _ (c .before .before .before .before .before .before .walk .ensures) _ (c .before .before .before .before .walked2 .given .1) (c .before .before .if1 .left))
+    turn-pull-fits (x .ended) (x .held) (x .gap) (x .window .now) (x .output .now) (x .piece .now) (loop .held) (loop .gap) (loop .taken) (loop .window) (loop .output) (loop .inv) (start .pre) _ (c .before .before .before .before .before .walk .ensures) _ (c .before .before .before .walked2 .given .1) (c .before .if1 .left)
 
 same-length-5 : tie.Need-same-length-5 Inv-loop μ-loop
 same-length-5 c = search needs
@@ -121,38 +145,38 @@ same-length-6 c = search needs
 
 returns-3 : tie.Need-returns-3 Inv-loop μ-loop
 returns-3 c =
-    let loop = c .before .before .before .before .before .before .before .before .before .before .before .before in
-    let start = c .before .before .before .before .before .before .before .before .before .before .before .before .before .before .before .before in
+    let loop = c .before .before .before .before .before .before .before .before .before .before .before .loop in
+    let start = c .before .before .before .before .before .before .before .before .before .before .before .before .before .before .before in
     let x = start .args in
-    turn-more (x .ended) (x .held) (x .gap) (x .window .now) (x .output .now) (x .piece .now) (loop .loop .here) (loop .loop .before) (loop .loop .taken) (loop .loop .window) (loop .loop .output) (loop .loop .inv) (start .pre .1) _ (c .before .before .before .before .before .before .before .before .before .before .walk .ensures) _ (c .before .before .before .before .before .before .before .before .walked2 .given .1) (c .before .before .before .before .before .before .if1 .left) _ _ (c .before .before .before .pull .ensures) (c .if2 .taken)
+    turn-more (x .ended) (x .held) (x .gap) (x .window .now) (x .output .now) (x .piece .now) (loop .held) (loop .gap) (loop .taken) (loop .window) (loop .output) (loop .inv) (start .pre) _ (c .before .before .before .before .before .before .before .before .before .walk .ensures) _ (c .before .before .before .before .before .before .before .walked2 .given .1) (c .before .before .before .before .before .if1 .left) _ _ (c .before .before .before .pull .ensures) (c .if2 .taken)
 
-add-here : tie.Need-add-here Inv-loop μ-loop
-add-here c =
-    let loop = c .before .before .before .before .before .before .before .before .before .before .before .before in
-    let start = c .before .before .before .before .before .before .before .before .before .before .before .before .before .before .before .before in
+add-held : tie.Need-add-held Inv-loop μ-loop
+add-held c =
+    let loop = c .before .before .before .before .before .before .before .before .before .before .before .loop in
+    let start = c .before .before .before .before .before .before .before .before .before .before .before .before .before .before .before in
     let x = start .args in
-    omega (arith, turn-on (x .ended) (x .held) (x .gap) (x .window .now) (x .output .now) (x .piece .now) (loop .loop .here) (loop .loop .before) (loop .loop .taken) (loop .loop .window) (loop .loop .output) (loop .loop .inv) (start .pre .1) _ (c .before .before .before .before .before .before .before .before .before .before .walk .ensures) _ (c .before .before .before .before .before .before .before .before .walked2 .given .1) (c .before .before .before .before .before .before .if1 .left) _ _ (c .before .before .before .pull .ensures) (c .if2 .left) .room)
+    turn-on-fits (x .ended) (x .held) (x .gap) (x .window .now) (x .output .now) (x .piece .now) (loop .held) (loop .gap) (loop .taken) (loop .window) (loop .output) (loop .inv) (start .pre) _ (c .before .before .before .before .before .before .before .before .before .walk .ensures) _ (c .before .before .before .before .before .before .before .walked2 .given .1) (c .before .before .before .before .before .if1 .left) _ _ (c .before .before .before .pull .ensures) (c .if2 .left) .0
 
 add-taken : tie.Need-add-taken Inv-loop μ-loop
 add-taken c =
-    let loop = c .before .before .before .before .before .before .before .before .before .before .before .before in
-    let start = c .before .before .before .before .before .before .before .before .before .before .before .before .before .before .before .before in
+    let loop = c .before .before .before .before .before .before .before .before .before .before .before .loop in
+    let start = c .before .before .before .before .before .before .before .before .before .before .before .before .before .before .before in
     let x = start .args in
-    omega (arith, turn-on (x .ended) (x .held) (x .gap) (x .window .now) (x .output .now) (x .piece .now) (loop .loop .here) (loop .loop .before) (loop .loop .taken) (loop .loop .window) (loop .loop .output) (loop .loop .inv) (start .pre .1) _ (c .before .before .before .before .before .before .before .before .before .before .walk .ensures) _ (c .before .before .before .before .before .before .before .before .walked2 .given .1) (c .before .before .before .before .before .before .if1 .left) _ _ (c .before .before .before .pull .ensures) (c .if2 .left) .within, start .pre)
+    turn-on-fits (x .ended) (x .held) (x .gap) (x .window .now) (x .output .now) (x .piece .now) (loop .held) (loop .gap) (loop .taken) (loop .window) (loop .output) (loop .inv) (start .pre) _ (c .before .before .before .before .before .before .before .before .before .walk .ensures) _ (c .before .before .before .before .before .before .before .walked2 .given .1) (c .before .before .before .before .before .if1 .left) _ _ (c .before .before .before .pull .ensures) (c .if2 .left) .1
 
 loop-less : tie.Need-loop-less Inv-loop μ-loop
 loop-less c =
-    let loop = c .before .before .before .before .before .before .before .before .before .before .before .before in
-    let start = c .before .before .before .before .before .before .before .before .before .before .before .before .before .before .before .before in
+    let loop = c .before .before .before .before .before .before .before .before .before .before .before .loop in
+    let start = c .before .before .before .before .before .before .before .before .before .before .before .before .before .before .before in
     let x = start .args in
-    omega (arith, turn-on (x .ended) (x .held) (x .gap) (x .window .now) (x .output .now) (x .piece .now) (loop .loop .here) (loop .loop .before) (loop .loop .taken) (loop .loop .window) (loop .loop .output) (loop .loop .inv) (start .pre .1) _ (c .before .before .before .before .before .before .before .before .before .before .walk .ensures) _ (c .before .before .before .before .before .before .before .before .walked2 .given .1) (c .before .before .before .before .before .before .if1 .left) _ _ (c .before .before .before .pull .ensures) (c .if2 .left) .within, c .if2 .left)
+    turn-less (x .ended) (x .held) (x .gap) (x .window .now) (x .output .now) (x .piece .now) (loop .held) (loop .gap) (loop .taken) (loop .window) (loop .output) (loop .inv) (start .pre) _ (c .before .before .before .before .before .before .before .before .before .walk .ensures) _ (c .before .before .before .before .before .before .before .walked2 .given .1) (c .before .before .before .before .before .if1 .left) _ _ (c .before .before .before .pull .ensures) (c .if2 .left)
 
 loop-again : tie.Need-loop-again Inv-loop μ-loop
 loop-again c =
-    let loop = c .before .before .before .before .before .before .before .before .before .before .before .before in
-    let start = c .before .before .before .before .before .before .before .before .before .before .before .before .before .before .before .before in
+    let loop = c .before .before .before .before .before .before .before .before .before .before .before .loop in
+    let start = c .before .before .before .before .before .before .before .before .before .before .before .before .before .before .before in
     let x = start .args in
-    turn-on (x .ended) (x .held) (x .gap) (x .window .now) (x .output .now) (x .piece .now) (loop .loop .here) (loop .loop .before) (loop .loop .taken) (loop .loop .window) (loop .loop .output) (loop .loop .inv) (start .pre .1) _ (c .before .before .before .before .before .before .before .before .before .before .walk .ensures) _ (c .before .before .before .before .before .before .before .before .walked2 .given .1) (c .before .before .before .before .before .before .if1 .left) _ _ (c .before .before .before .pull .ensures) (c .if2 .left)
+    turn-on (x .ended) (x .held) (x .gap) (x .window .now) (x .output .now) (x .piece .now) (loop .held) (loop .gap) (loop .taken) (loop .window) (loop .output) (loop .inv) (start .pre) _ (c .before .before .before .before .before .before .before .before .before .walk .ensures) _ (c .before .before .before .before .before .before .before .walked2 .given .1) (c .before .before .before .before .before .if1 .left) _ _ (c .before .before .before .pull .ensures) (c .if2 .left)
 
 pub divide-spec : {M : Type 1} → statement M
 divide-spec =
@@ -165,26 +189,29 @@ divide-spec =
     slice-aggregate-walk
     walk-requires
     enum-known-walked
-    give-requires
-    add-t22
+    add-end
+    sub-left
+    sub-copy
+    part-copy-start
+    part-copy-end
+    copy-requires
+    shift-requires
+    add-t19
     same-length
     same-length-2
     returns
     enum-known-walked-2
-    sub-here
-    add-before
+    sub-held
+    add-gap
     in-place-requires
     same-length-3
     same-length-4
     returns-2
-    sub-pull
-    part-pull-start
-    part-pull-end
     pull-requires
     same-length-5
     same-length-6
     returns-3
-    add-here
+    add-held
     add-taken
     loop-less
     loop-again)

@@ -1,14 +1,11 @@
 -- `stream::feed` meets its contract. Assumes nothing.
-use Prim.Native.Nat.{ℕ}
-use mathlib.Core.Path.{_≡_}
-use native.Mathlib.Omega.{arith}
-use Rattle.stream.proofs.CallSteps.{fed-leaves}
+use Rattle.stream.proofs.CallSteps.{feeds-on, fed-leaves}
 use borrow.Author.Needs.{needs}
 use Rattle.stream.proofs.feed.Statement.{statement}
 use Rattle.stream.proofs.feed.Tie as tie
 
 call-requires : tie.Need-call-requires
-call-requires c κs = λ z. absurd (let y : _≡_ {A = ℕ} 0 1 = cc in omega arith)
+call-requires c κs = feeds-on _
 
 same-length : tie.Need-same-length
 same-length c = search needs

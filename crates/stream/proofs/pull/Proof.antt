@@ -17,17 +17,20 @@ slice-aggregate-wanted c =
     let moved = c .before .before .before in
     let start = c .before .before .before .before .before .before .before in
     let x = start .args in
-    sym (length-take-le _ _ (pull-fits (x .from) (x .n) (x .window .now) (x .piece .now) (moved .shift .last .0) (start .pre) (moved .shift .ensures)))
+    sym (length-take-le _ _ (pull-fits (x .from) (x .n) (x .taken) (x .window .now) (x .piece .now) (moved .shift .last .0) (start .pre) (moved .shift .ensures)))
+
+sub-wanted : tie.Need-sub-wanted
+sub-wanted c = search needs
 
 wanted-requires : tie.Need-wanted-requires
 wanted-requires c κs =
     let moved = c .before .before .before in
     let start = c .before .before .before .before .before .before .before in
     let x = start .args in
-    pull-open (x .from) (x .n) (x .window .now) (x .piece .now) (moved .shift .last .0) (start .pre) (moved .shift .ensures)
+    pull-open (x .from) (x .n) (x .taken) (x .window .now) (x .piece .now) (moved .shift .last .0) (start .pre) (moved .shift .ensures)
 
-slice-aggregate-copy : tie.Need-slice-aggregate-copy
-slice-aggregate-copy c = sym (length-take-le _ _ (c .before .wanted .ensures .1))
+add-end : tie.Need-add-end
+add-end c = search needs
 
 sub-copy : tie.Need-sub-copy
 sub-copy c = search needs
@@ -37,6 +40,15 @@ part-copy-start c = search needs
 
 part-copy-end : tie.Need-part-copy-end
 part-copy-end c = search needs
+
+sub-copy-2 : tie.Need-sub-copy-2
+sub-copy-2 c = search needs
+
+part-copy-start-2 : tie.Need-part-copy-start-2
+part-copy-start-2 c = search needs
+
+part-copy-end-2 : tie.Need-part-copy-end-2
+part-copy-end-2 c = search needs
 
 copy-requires : tie.Need-copy-requires
 copy-requires c κs = search needs
@@ -49,7 +61,7 @@ returns c =
     let moved = c .before .before .before .before .before .before .before .before .before in
     let start = c .before .before .before .before .before .before .before .before .before .before .before .before .before in
     let x = start .args in
-    pulled (x .from) (x .n) (x .window .now) (x .piece .now) (moved .shift .last .0) (start .pre) (moved .shift .ensures) _ _ (c .before .before .before .before .before .wanted .ensures) (c .before .before .copy .ensures)
+    pulled (x .from) (x .n) (x .taken) (x .window .now) (x .piece .now) (moved .shift .last .0) (start .pre) (moved .shift .ensures) _ _ (c .before .before .before .before .before .wanted .ensures) (c .before .before .copy .ensures)
 
 pub pull-spec : {M : Type 1} → statement M
 pull-spec =
@@ -58,11 +70,15 @@ pull-spec =
     shift-requires
     slice-reshare-prefix-wanted
     slice-aggregate-wanted
+    sub-wanted
     wanted-requires
-    slice-aggregate-copy
+    add-end
     sub-copy
     part-copy-start
     part-copy-end
+    sub-copy-2
+    part-copy-start-2
+    part-copy-end-2
     copy-requires
     same-length
     returns)
