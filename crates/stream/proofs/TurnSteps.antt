@@ -79,46 +79,47 @@ module _ (g t : ℕ) (p w o : List ℕ) (fits : (t ≤ length p) × (6136 ≤ le
     pub place-end : k + n ≤ e
     place-end = found .inside
 
-    pub place-reach : e ≤ length (take (length p - t) (drop t p))
-    place-reach = found .within
+    pub place-message : (k ≤ k + n) × (k + n ≤ length (take (length p - t) (drop t p))) × (k + n - k ≤ length o)
+    place-message = (omega arith, omega (arith, found .inside, found .within), omega (arith, found .size))
+
+    pub place-rest : (k + n ≤ e) × (e ≤ length (take (length p - t) (drop t p))) × (e - (k + n) ≤ length w)
+    place-rest = (found .inside, found .within, omega (arith, found .held))
 
     reaches : t + e ≤ length p
     reaches = omega (arith, found .within, rest-long)
 
-    pub place-sums : Fits w64 (g + k) × Fits w64 (t + e) × Fits w64 (k + n) × (k + n ≤ length (take (length p - t) (drop t p)))
+    pub place-sums : Fits w64 (g + k) × Fits w64 (t + e) × Fits w64 (k + n)
     place-sums =
-        (record { fits = omega (arith, reaches, found .inside) }, record { fits = omega (arith, reaches) }, record { fits = omega (arith, reaches, found .inside) }, omega (arith, found .inside, found .within))
+        (record { fits = omega (arith, reaches, found .inside) }, record { fits = omega (arith, reaches) }, record { fits = omega (arith, reaches, found .inside) })
 
-    pub place-given : (w′ o′ : List ℕ) → o′ ≡ over (take (length o) (take (k + n - k) (drop k (take (length p - t) (drop t p))))) o
-        → w′ ≡ over (take (length w) (take (e - (k + n)) (drop (k + n) (take (length p - t) (drop t p))))) w
+    pub place-given : (w′ o′ : List ℕ) → o′ ≡ over (take (k + n - k) (drop k (take (length p - t) (drop t p)))) o
+        → w′ ≡ over (take (e - (k + n)) (drop (k + n) (take (length p - t) (drop t p)))) w
         → Given (feed [] g (drop t p)) p w o n (g + k) (t + e) (e - (k + n)) w′ o′
     place-given w′ o′ u v =
         let xs : List ℕ = take e (take (length p - t) (drop t p)) in
         let behind : drop e (take (length p - t) (drop t p)) ≡ drop (t + e) p = ap (drop e) (tail p t) ∙ drop-drop e t p in
         let d : feed [] g (drop t p) ≡ given (g + k) (take n (drop k xs)) (drop n (drop k xs)) (drop (t + e) p) =
         ap (feed [] g) (sym (tail p t)) ∙ found .feeds g ∙ ap (given (g + k) (take n (drop k xs)) (drop n (drop k xs))) behind in
-        let long : length xs ≡ e = length-take-le e (take (length p - t) (drop t p)) place-reach in
-        let gave = gave-piece k n e (take (length p - t) (drop t p)) w o w′ o′ place-end place-reach (omega (arith, found .held)) (omega (arith, found .size)) u v in
+        let long : length xs ≡ e = length-take-le e (take (length p - t) (drop t p)) (found .within) in
+        let gave = gave-piece k n e (take (length p - t) (drop t p)) w o w′ o′ place-rest u v in
         came-given (feed [] g (drop t p)) p w w o k n (g + k) (t + e) xs (e - (k + n)) w′ o′ d (omega (arith, place-end)) reaches (omega (arith, found .held)) refl gave
 
   module _ (k : ℕ) (q : r ≡ Unsettled k) where
     open-at : FedMore (take (length p - t) (drop t p)) k
     open-at = fed-more (take (length p - t) (drop t p)) r z k q
 
-    pub place-within : k ≤ length (take (length p - t) (drop t p))
-    place-within = open-at .within
+    pub place-open : (k ≤ length (take (length p - t) (drop t p))) × (length (take (length p - t) (drop t p)) ≤ length (take (length p - t) (drop t p))) × (length (take (length p - t) (drop t p)) - k ≤ length w)
+    place-open = (open-at .within, omega arith, omega (arith, open-at .held))
 
     pub place-gap : Fits w64 (g + k)
     place-gap = record { fits = omega (arith, open-at .within, rest-long) }
 
-    pub place-more : (w′ : List ℕ) → w′ ≡ over (take (length w) (take (length (take (length p - t) (drop t p)) - k) (drop k (take (length p - t) (drop t p))))) w
+    pub place-more : (w′ : List ℕ) → w′ ≡ over (take (length (take (length p - t) (drop t p)) - k) (drop k (take (length p - t) (drop t p)))) w
         → CameTo (feed [] g (drop t p)) p w o (Nothing (g + k) (length p) (length (take (length p - t) (drop t p)) - k)) w′ o
     place-more w′ v =
         let xs : List ℕ = take (length p - t) (drop t p) in
-        let y : length (take (length xs - k) (drop k xs)) ≡ length xs - k = ap length (tail xs k) ∙ length-drop k xs in
-        let room : length (take (length xs - k) (drop k xs)) ≤ length w = omega (arith, open-at .held) in
-        let kept : take (length xs - k) w′ ≡ drop k xs = ap (λ i. take i w′) (sym y) ∙ copied-front (take (length xs - k) (drop k xs)) w w′ room v ∙ tail xs k in
-        (ap (feed [] g) (sym (tail p t)) ∙ open-at .feeds g ∙ ap (more (g + k)) (sym kept), refl, omega (arith, open-at .held), copied-same (take (length xs - k) (drop k xs)) w w′ room v, refl)
+        let kept : take (length xs - k) w′ ≡ drop k xs = copied-front k (length xs) xs w w′ place-open v ∙ tail xs k in
+        (ap (feed [] g) (sym (tail p t)) ∙ open-at .feeds g ∙ ap (more (g + k)) (sym kept), refl, place-open .2, copied-same k (length xs) xs w w′ place-open v, refl)
 
 -- ---- turn after turn
 pub record Filling (e : Bool) (h₀ g₀ : ℕ) (w₀ o₀ p : List ℕ) (h g t : ℕ) (w o : List ℕ) : Type 0 where
@@ -179,16 +180,19 @@ module _ (e : Bool) (h₀ g₀ : ℕ) (w₀ o₀ p : List ℕ) (h g t : ℕ) (w 
       pub turn-inside : k + n ≤ h
       turn-inside = let m = found-message e (take h w) r z k n u q in omega (arith, m .counted, m .within, length-held)
 
-      pub turn-ends : Fits w64 (k + n) × (k + n ≤ length w) × (k + n + (h - (k + n)) ≤ length w) × Fits w64 (g + k)
+      pub turn-ends : Fits w64 (k + n) × (k + n + (h - (k + n)) ≤ length w) × Fits w64 (g + k)
       turn-ends =
-          (record { fits = omega (arith, turn-inside, f .room) }, omega (arith, turn-inside, filling-held), omega (arith, turn-inside, filling-held), record { fits = omega (arith, turn-inside, f .sums, f .within) })
+          (record { fits = omega (arith, turn-inside, f .room) }, omega (arith, turn-inside, filling-held), record { fits = omega (arith, turn-inside, f .sums, f .within) })
 
-      pub turn-given : (w′ o′ : List ℕ) → o′ ≡ over (take (length o) (take (k + n - k) (drop k w))) o → w′ ≡ paste w 0 (drop (k + n) w) (h - (k + n)) → CameTo Come p w₀ o₀ (Message n (g + k) t (h - (k + n))) w′ o′
+      pub turn-message : (k ≤ k + n) × (k + n ≤ length w) × (k + n - k ≤ length o)
+      turn-message = (omega arith, omega (arith, turn-inside, filling-held), omega (arith, turn-inside, f .room, f .same-output))
+
+      pub turn-given : (w′ o′ : List ℕ) → o′ ≡ over (take (k + n - k) (drop k w)) o → w′ ≡ paste w 0 (drop (k + n) w) (h - (k + n)) → CameTo Come p w₀ o₀ (Message n (g + k) t (h - (k + n))) w′ o′
       turn-given w′ o′ a b =
           let m = found-message e (take h w) r z k n u q in
           let y : m .ahead ≡ k = omega (arith, m .counted) in
           let s : scan e (take h w) g ≡ got (g + k) n (drop k (take h w)) = m .is g ∙ rw y in
-          let v = gave-held k n h w o o′ w′ turn-inside filling-held (omega (arith, turn-inside, f .room, f .same-output)) a b in
+          let v = gave-held k n h w o o′ w′ turn-inside filling-held a b in
           same-came Come Come p w₀ w₀ o o₀ (Message n (g + k) t (h - (k + n))) w′ o′ refl refl (f .output)
           (came-given Come p w₀ w o k n (g + k) t (take h w) (h - (k + n)) w′ o′ (f .feeds ∙ ap (fed (drop t p)) s ∙ fed-got _ _ _ _) (omega (arith, turn-inside, length-held)) (f .within) (omega (arith, length-held, f .room)) (f .same) v)
 

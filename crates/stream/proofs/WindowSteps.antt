@@ -21,11 +21,9 @@ tail b at = take-all (length b - at) (drop at b) (omega (arith, length-drop at b
 nothing-behind : (b : List ℕ) (at : ℕ) → drop (length b - at) (drop at b) ≡ []
 nothing-behind b at = drop-of-length-le (drop at b) {i = length b - at} (omega (arith, length-drop at b))
 
-pub appended : (p b w : List ℕ) (at : ℕ) → at + length p ≤ length b → w ≡ over (take (length (take (length b - at) (drop at b))) p) (take (length b - at) (drop at b))
-    → take at b ++ (w ++ drop (length b - at) (drop at b)) ≡ paste b at p (length p)
-appended p b w at l e =
-    let z : w ≡ p ++ drop (at + length p) b =
-    e ∙ ap (λ r. over (take (length r) p) r) (tail b at) ∙ ap (λ r. over r (drop at b)) (take-all (length (drop at b)) p (omega (arith, length-drop at b))) ∙ ap (λ r. p ++ r) (drop-drop (length p) at b) in
+appended : (p b w : List ℕ) (at : ℕ) → w ≡ over p (take (length b - at) (drop at b)) → take at b ++ (w ++ drop (length b - at) (drop at b)) ≡ paste b at p (length p)
+appended p b w at e =
+    let z : w ≡ p ++ drop (at + length p) b = e ∙ ap (over p) (tail b at) ∙ ap (λ r. p ++ r) (drop-drop (length p) at b) in
     ap (λ r. take at b ++ (w ++ r)) (nothing-behind b at) ∙ ap (λ r. take at b ++ r) (append-nil w ∙ z ∙ ap (λ r. r ++ drop (at + length p) b) (sym (take-length p))) ∙ sym (append-assoc (take at b) (take (length p) p) (drop (at + length p) b))
 
 pub cleared : (b w : List ℕ) (from : ℕ) → from ≤ length b → w ≡ replicate (length (take (length b - from) (drop from b))) 0
@@ -67,15 +65,24 @@ unfolding laid
 laid-take h w w₁ w₂ l e v = v ∙ rw (length-take-le h w₁ l, e)
 
 -- ---- bytes copied over the front of a buffer
-module _ (s t t′ : List ℕ) (fits : length s ≤ length t) (e : t′ ≡ over (take (length t) s) t) where
-  pub copied : t′ ≡ over s t
-  copied = e ∙ ap (λ r. over r t) (take-all (length t) s fits)
+part-long : (from to : ℕ) (bytes : List ℕ) → from ≤ to → to ≤ length bytes → length (take (to - from) (drop from bytes)) ≡ to - from
+part-long from to bytes a b = length-take-le (to - from) (drop from bytes) (omega (arith, length-drop from bytes))
 
-  pub copied-front : take (length s) t′ ≡ s
-  copied-front = ap (take (length s)) copied ∙ take-append-le (length s) s (drop (length s) t) (omega arith) ∙ take-length s
+pub copied : (from to : ℕ) (bytes t t′ : List ℕ) → (from ≤ to) × (to ≤ length bytes) × (to - from ≤ length t) → t′ ≡ over (take (length t) (take (to - from) (drop from bytes))) t → t′ ≡ over (take (to - from) (drop from bytes)) t
+copied from to bytes t t′ fits e =
+    e ∙ ap (λ r. over r t) (take-all (length t) (take (to - from) (drop from bytes)) (omega (arith, part-long from to bytes (fits .0) (fits .1))))
+
+module _ (from to : ℕ) (bytes t t′ : List ℕ) (fits : (from ≤ to) × (to ≤ length bytes) × (to - from ≤ length t)) (e : t′ ≡ over (take (to - from) (drop from bytes)) t) where
+  pub copied-front : take (to - from) t′ ≡ take (to - from) (drop from bytes)
+  copied-front =
+      let xs : List ℕ = take (to - from) (drop from bytes) in
+      let l : length xs ≡ to - from = part-long from to bytes (fits .0) (fits .1) in
+      ap (take (to - from)) e ∙ ap (λ i. take i (over xs t)) (sym l) ∙ take-append-le (length xs) xs (drop (length xs) t) (omega arith) ∙ take-length xs
 
   pub copied-same : length t′ ≡ length t
-  copied-same = omega (arith, ap length copied, length-append s (drop (length s) t), length-drop (length s) t)
+  copied-same =
+      let xs : List ℕ = take (to - from) (drop from bytes) in
+      omega (arith, ap length e, length-append xs (drop (length xs) t), length-drop (length xs) t, part-long from to bytes (fits .0) (fits .1))
 
 -- ---- a message handed over: the bytes from a to h, whichever way they are cut
 pub middle : (a h : ℕ) (w : List ℕ) → a ≤ h → drop a (take h w) ≡ take (h - a) (drop a w)
@@ -93,37 +100,30 @@ pub record Gave (k n : ℕ) (xs w o : List ℕ) (h : ℕ) (w′ o′ : List ℕ)
   pub same : length w′ ≡ length w
   pub output : o′ ≡ over (take n (drop k xs)) o
 
-gave-output : (k n h : ℕ) (xs o o′ : List ℕ) → k + n ≤ h → h ≤ length xs → n ≤ length o → o′ ≡ over (take (length o) (take (k + n - k) (drop k xs))) o → o′ ≡ over (take n (drop k (take h xs))) o
-gave-output k n h xs o o′ inside within room p =
-    let size : length (take (k + n - k) (drop k xs)) ≡ k + n - k = length-take-le (k + n - k) (drop k xs) (omega (arith, length-drop k xs)) in
-    copied (take (k + n - k) (drop k xs)) o o′ (omega arith) p ∙ ap (λ l. over l o) (sym (message-part k n h xs inside))
-
 -- from the window itself
-pub gave-held : (k n h : ℕ) (w o o′ w₁ : List ℕ) → k + n ≤ h → h ≤ length w → n ≤ length o
-    → o′ ≡ over (take (length o) (take (k + n - k) (drop k w))) o
+pub gave-held : (k n h : ℕ) (w o o′ w₁ : List ℕ) → k + n ≤ h → h ≤ length w
+    → o′ ≡ over (take (k + n - k) (drop k w)) o
     → w₁ ≡ paste w 0 (drop (k + n) w) (h - (k + n))
     → Gave k n (take h w) w o (h - (k + n)) w₁ o′
-gave-held k n h w o o′ w₁ inside within room p q =
+gave-held k n h w o o′ w₁ inside within p q =
     record {
       count = rw (length-take-le h w within);
       window = shift-front (k + n) (h - (k + n)) w w₁ (omega arith) q ∙ sym (drop-drop n k (take h w) ∙ middle (k + n) h w inside);
       same = shift-same (k + n) (h - (k + n)) w w₁ (omega arith) q;
-      output = gave-output k n h w o o′ inside within room p;
+      output = p ∙ ap (λ l. over l o) (sym (message-part k n h w inside));
     }
 
 -- from a piece
-pub gave-piece : (k n e : ℕ) (q w o w′ o′ : List ℕ) → k + n ≤ e → e ≤ length q → e - (k + n) ≤ length w → n ≤ length o
-    → o′ ≡ over (take (length o) (take (k + n - k) (drop k q))) o
-    → w′ ≡ over (take (length w) (take (e - (k + n)) (drop (k + n) q))) w
+pub gave-piece : (k n e : ℕ) (q w o w′ o′ : List ℕ) → (k + n ≤ e) × (e ≤ length q) × (e - (k + n) ≤ length w)
+    → o′ ≡ over (take (k + n - k) (drop k q)) o
+    → w′ ≡ over (take (e - (k + n)) (drop (k + n) q)) w
     → Gave k n (take e q) w o (e - (k + n)) w′ o′
-gave-piece k n e q w o w′ o′ inside within held room p r =
-    let rest : List ℕ = take (e - (k + n)) (drop (k + n) q) in
-    let left : length rest ≡ e - (k + n) = length-take-le (e - (k + n)) (drop (k + n) q) (omega (arith, length-drop (k + n) q)) in
+gave-piece k n e q w o w′ o′ fits p r =
     record {
-      count = rw (length-take-le e q within);
-      window = ap (λ i. take i w′) (sym left) ∙ copied-front rest w w′ (omega arith) r ∙ sym (drop-drop n k (take e q) ∙ middle (k + n) e q inside);
-      same = copied-same rest w w′ (omega arith) r;
-      output = gave-output k n e q o o′ inside within room p;
+      count = rw (length-take-le e q (fits .1));
+      window = copied-front (k + n) e q w w′ fits r ∙ sym (drop-drop n k (take e q) ∙ middle (k + n) e q (fits .0));
+      same = copied-same (k + n) e q w w′ fits r;
+      output = p ∙ ap (λ l. over l o) (sym (message-part k n e q (fits .0)));
     }
 
 -- ---- the bytes at an unsettled position go to the front, and bytes of the piece behind them
@@ -137,21 +137,26 @@ module _ (from n t : ℕ) (w p w₁ : List ℕ) (fits : (from + n ≤ length w) 
   pub pull-open : length (take n w₁) < need (take n w₁)
   pull-open = rw (length-take-le n w₁ pull-fits, front) (fits .2)
 
-  pub pulled : (c : ℕ) (w₂ : List ℕ) → (length (take n w₁) + c ≤ need (take n w₁)) × (c ≤ length p - t) × (c ≡ 0 → length p - t ≡ 0)
-      → w₂ ≡ over (take (length (take (length w₁ - n) (drop n w₁))) (take (t + c - t) (drop t p))) (take (length w₁ - n) (drop n w₁))
-      → Pulled n (take n (drop from w)) w (drop t p) c (take n w₁ ++ (w₂ ++ drop (length w₁ - n) (drop n w₁)))
-  pulled c w₂ h f =
-      let xs : List ℕ = take c (drop t p) in
-      let z : t + c - t ≡ c = omega arith in
-      let long : length xs ≡ c = length-take-le c (drop t p) (omega (arith, h .1, length-drop t p)) in
-      let same : length w₁ ≡ length w = shift-same from n w w₁ (fits .0) e in
-      let few : n + c ≤ need (take n (drop from w)) = rw (length-take-le n w₁ pull-fits, front) at (h .0) in
-      let room : n + length xs ≤ length w₁ = omega (arith, need-most (take n (drop from w))) in
-      let put = appended xs w₁ w₂ n room (rw z at f) in
-      record {
-        bytes = ap (take (n + c)) put ∙ ap (λ i. take (n + i) (paste w₁ n xs (length xs))) (sym long) ∙ take-paste w₁ n xs (length xs) pull-fits (omega arith) ∙ rw (front, take-length xs);
-        same = ap length put ∙ length-paste w₁ n xs (length xs) room (omega arith) ∙ same;
-        within = omega (arith, h .1, length-drop t p);
-        fewest = few;
-        all = λ y. length-drop t p ∙ h .2 y;
-      }
+  module _ (c : ℕ) (h : (length (take n w₁) + c ≤ need (take n w₁)) × (c ≤ length p - t) × (c ≡ 0 → length p - t ≡ 0)) where
+    few : n + c ≤ need (take n (drop from w))
+    few = rw (length-take-le n w₁ pull-fits, front) at (h .0)
+
+    room : n + c ≤ length w₁
+    room = omega (arith, few, need-most (take n (drop from w)), shift-same from n w w₁ (fits .0) e)
+
+    pub pull-part : (t ≤ t + c) × (t + c ≤ length p) × (t + c - t ≤ length (take (length w₁ - n) (drop n w₁)))
+    pull-part = (omega arith, omega (arith, h .1), rw (tail w₁ n) (omega (arith, room, length-drop n w₁)))
+
+    pub pulled : (w₂ : List ℕ) → w₂ ≡ over (take (t + c - t) (drop t p)) (take (length w₁ - n) (drop n w₁)) → Pulled n (take n (drop from w)) w (drop t p) c (take n w₁ ++ (w₂ ++ drop (length w₁ - n) (drop n w₁)))
+    pulled w₂ f =
+        let xs : List ℕ = take c (drop t p) in
+        let z : t + c - t ≡ c = omega arith in
+        let long : length xs ≡ c = length-take-le c (drop t p) (omega (arith, h .1, length-drop t p)) in
+        let put = appended xs w₁ w₂ n (rw z at f) in
+        record {
+          bytes = ap (take (n + c)) put ∙ ap (λ i. take (n + i) (paste w₁ n xs (length xs))) (sym long) ∙ take-paste w₁ n xs (length xs) pull-fits (omega arith) ∙ rw (front, take-length xs);
+          same = ap length put ∙ length-paste w₁ n xs (length xs) (omega (arith, room)) (omega arith) ∙ shift-same from n w w₁ (fits .0) e;
+          within = omega (arith, h .1, length-drop t p);
+          fewest = few;
+          all = λ y. length-drop t p ∙ h .2 y;
+        }

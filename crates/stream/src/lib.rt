@@ -6,10 +6,11 @@ use refusal::Refusal;
 ghost use mathlib.Core.Path.{_≡_};
 ghost use mathlib.Core.Bool.{true};
 ghost use mathlib.Core.List.{[]};
-ghost use Prim.Native.Nat.{ℕ, _+_, _^_, _<_, _≤_};
+ghost use Prim.Native.Nat.{ℕ, _+_, _-_, _^_, _<_, _≤_};
 ghost use lib.ListN.{length, take, drop};
 ghost use lib.Seq.{paste};
 ghost use mir.Val.{boolByte};
+ghost use Rattle.octets.specs.Parts.{over};
 ghost use Rattle.front.specs.Look.{need};
 ghost use Rattle.stream.specs.Scan.{scan};
 ghost use Rattle.stream.specs.Feed.{fed, feed};
@@ -102,6 +103,14 @@ fn checks(
 
 // ---- bytes that move
 
+// The bytes from index `from` up to index `to`, over the front of the buffer.
+fn copy_part(bytes: &[u8], from: usize, to: usize, buffer: &mut [u8])
+    requires { ⌜ (from ≤ to) × (to ≤ length (now bytes)) × (to - from ≤ length (now buffer)) ⌝ }
+    ensures { λ _. ⌜ now (buffer .exit) ≡ over (take (to - from) (drop from (now (bytes .entry)))) (now (buffer .entry)) ⌝ }
+{
+    octets::copy(&bytes[from..to], buffer);
+}
+
 // The n bytes from index `from` on, to the front of the window.
 fn shift(window: &mut [u8], from: usize, n: usize)
     requires { ⌜ from + n ≤ length (now window) ⌝ }
@@ -149,7 +158,7 @@ fn pull(from: usize, n: usize, taken: usize, piece: &[u8], window: &mut [u8]) ->
     shift(window, from, n);
     let more = wanted(&window[..n], piece.len() - taken);
     let end = taken + more;
-    octets::copy(&piece[taken..end], &mut window[n..]);
+    copy_part(piece, taken, end, &mut window[n..]);
     more
 }
 
@@ -163,12 +172,12 @@ fn in_place(gap: usize, taken: usize, piece: &[u8], window: &mut [u8], output: &
     match walked {
         Walked::Message(at, length, reach) => {
             let end = at + length;
-            octets::copy(&rest[at..end], output);
-            octets::copy(&rest[end..reach], window);
+            copy_part(rest, at, end, output);
+            copy_part(rest, end, reach, window);
             Outcome::Message(length, gap + at, taken + reach, reach - end)
         }
         Walked::Unsettled(at) => {
-            octets::copy(&rest[at..], window);
+            copy_part(rest, at, rest.len(), window);
             Outcome::Nothing(gap + at, piece.len(), rest.len() - at)
         }
     }
@@ -193,7 +202,7 @@ fn divide(
             Walked::Message(at, length, _) => {
                 let end = at + length;
                 let left = held - end;
-                octets::copy(&window[at..end], output);
+                copy_part(window, at, end, output);
                 shift(window, end, left);
                 return Outcome::Message(length, gap + at, taken, left);
             }

@@ -3,7 +3,7 @@ use Prim.Native.Nat.{_-_}
 use mathlib.Core.Path.{sym}
 use lib.ListN.{length}
 use lib.Seq.{length-take-le}
-use Rattle.stream.proofs.TurnSteps.{Filling, filling-begins, filling-held, turn-inside, turn-ends, turn-given, turn-within, turn-gap, turn-place-fits, turn-place, turn-pull-fits, turn-more, turn-on, turn-on-fits, turn-less}
+use Rattle.stream.proofs.TurnSteps.{Filling, filling-begins, filling-held, turn-inside, turn-ends, turn-message, turn-given, turn-within, turn-gap, turn-place-fits, turn-place, turn-pull-fits, turn-more, turn-on, turn-on-fits, turn-less}
 use borrow.Author.Needs.{needs}
 use Rattle.stream.proofs.divide.Statement.{statement}
 use Rattle.stream.proofs.divide.Tie as tie
@@ -50,35 +50,26 @@ sub-left c =
     let x = start .args in
     turn-inside (x .ended) (x .held) (x .gap) (x .window .now) (x .output .now) (x .piece .now) (loop .held) (loop .gap) (loop .taken) (loop .window) (loop .output) (loop .inv) (start .pre) _ (c .before .before .before .walk .ensures) _ _ _ (c .before .walked .given .1)
 
-sub-copy : tie.Need-sub-copy Inv-loop μ-loop
-sub-copy c = search needs
-
-part-copy-start : tie.Need-part-copy-start Inv-loop μ-loop
-part-copy-start c = search needs
-
-part-copy-end : tie.Need-part-copy-end Inv-loop μ-loop
-part-copy-end c =
-    let loop = c .before .before .before .before .before .before .loop in
-    let start = c .before .before .before .before .before .before .before .before .before .before in
+copy-part-requires : tie.Need-copy-part-requires Inv-loop μ-loop
+copy-part-requires c κs =
+    let loop = c .before .before .before .before .before .before .before .loop in
+    let start = c .before .before .before .before .before .before .before .before .before .before .before in
     let x = start .args in
-    turn-ends (x .ended) (x .held) (x .gap) (x .window .now) (x .output .now) (x .piece .now) (loop .held) (loop .gap) (loop .taken) (loop .window) (loop .output) (loop .inv) (start .pre) _ (c .before .before .before .before .walk .ensures) _ _ _ (c .before .before .walked .given .1) .1
-
-copy-requires : tie.Need-copy-requires Inv-loop μ-loop
-copy-requires c κs = search needs
+    turn-message (x .ended) (x .held) (x .gap) (x .window .now) (x .output .now) (x .piece .now) (loop .held) (loop .gap) (loop .taken) (loop .window) (loop .output) (loop .inv) (start .pre) _ (c .before .before .before .before .before .walk .ensures) _ _ _ (c .before .before .before .walked .given .1)
 
 shift-requires : tie.Need-shift-requires Inv-loop μ-loop
 shift-requires c κs =
-    let loop = c .before .before .before .before .before .before .before .before .before .before .before .before .loop in
-    let start = c .before .before .before .before .before .before .before .before .before .before .before .before .before .before .before .before in
+    let loop = c .before .before .before .before .before .before .before .before .before .before .before .loop in
+    let start = c .before .before .before .before .before .before .before .before .before .before .before .before .before .before .before in
     let x = start .args in
-    turn-ends (x .ended) (x .held) (x .gap) (x .window .now) (x .output .now) (x .piece .now) (loop .held) (loop .gap) (loop .taken) (loop .window) (loop .output) (loop .inv) (start .pre) _ (c .before .before .before .before .before .before .before .before .before .before .walk .ensures) _ _ _ (c .before .before .before .before .before .before .before .before .walked .given .1) .2
+    turn-ends (x .ended) (x .held) (x .gap) (x .window .now) (x .output .now) (x .piece .now) (loop .held) (loop .gap) (loop .taken) (loop .window) (loop .output) (loop .inv) (start .pre) _ (c .before .before .before .before .before .before .before .before .before .walk .ensures) _ _ _ (c .before .before .before .before .before .before .before .walked .given .1) .1
 
-add-t19 : tie.Need-add-t19 Inv-loop μ-loop
-add-t19 c =
-    let loop = c .before .before .before .before .before .before .before .before .before .before .before .before .before .before .before .loop in
-    let start = c .before .before .before .before .before .before .before .before .before .before .before .before .before .before .before .before .before .before .before in
+add-t24 : tie.Need-add-t24 Inv-loop μ-loop
+add-t24 c =
+    let loop = c .before .before .before .before .before .before .before .before .before .before .before .before .before .before .loop in
+    let start = c .before .before .before .before .before .before .before .before .before .before .before .before .before .before .before .before .before .before in
     let x = start .args in
-    turn-ends (x .ended) (x .held) (x .gap) (x .window .now) (x .output .now) (x .piece .now) (loop .held) (loop .gap) (loop .taken) (loop .window) (loop .output) (loop .inv) (start .pre) _ (c .before .before .before .before .before .before .before .before .before .before .before .before .before .walk .ensures) _ _ _ (c .before .before .before .before .before .before .before .before .before .before .before .walked .given .1) .3
+    turn-ends (x .ended) (x .held) (x .gap) (x .window .now) (x .output .now) (x .piece .now) (loop .held) (loop .gap) (loop .taken) (loop .window) (loop .output) (loop .inv) (start .pre) _ (c .before .before .before .before .before .before .before .before .before .before .before .before .walk .ensures) _ _ _ (c .before .before .before .before .before .before .before .before .before .before .walked .given .1) .2
 
 same-length : tie.Need-same-length Inv-loop μ-loop
 same-length c = search needs
@@ -88,10 +79,10 @@ same-length-2 c = search needs
 
 returns : tie.Need-returns Inv-loop μ-loop
 returns c =
-    let loop = c .before .before .before .before .before .before .before .before .before .before .before .before .before .before .before .loop in
-    let start = c .before .before .before .before .before .before .before .before .before .before .before .before .before .before .before .before .before .before .before in
+    let loop = c .before .before .before .before .before .before .before .before .before .before .before .before .before .before .loop in
+    let start = c .before .before .before .before .before .before .before .before .before .before .before .before .before .before .before .before .before .before in
     let x = start .args in
-    turn-given (x .ended) (x .held) (x .gap) (x .window .now) (x .output .now) (x .piece .now) (loop .held) (loop .gap) (loop .taken) (loop .window) (loop .output) (loop .inv) (start .pre) _ (c .before .before .before .before .before .before .before .before .before .before .before .before .before .walk .ensures) _ _ _ (c .before .before .before .before .before .before .before .before .before .before .before .walked .given .1) _ _ (c .before .before .before .before .before .before .copy .ensures) (c .before .before .shift .ensures)
+    turn-given (x .ended) (x .held) (x .gap) (x .window .now) (x .output .now) (x .piece .now) (loop .held) (loop .gap) (loop .taken) (loop .window) (loop .output) (loop .inv) (start .pre) _ (c .before .before .before .before .before .before .before .before .before .before .before .before .walk .ensures) _ _ _ (c .before .before .before .before .before .before .before .before .before .before .walked .given .1) _ _ (c .before .before .before .before .before .before .copy-part .ensures) (c .before .before .shift .ensures)
 
 enum-known-walked-2 : tie.Need-enum-known-walked-2 Inv-loop μ-loop
 enum-known-walked-2 c = search needs
@@ -191,12 +182,9 @@ divide-spec =
     enum-known-walked
     add-end
     sub-left
-    sub-copy
-    part-copy-start
-    part-copy-end
-    copy-requires
+    copy-part-requires
     shift-requires
-    add-t19
+    add-t24
     same-length
     same-length-2
     returns

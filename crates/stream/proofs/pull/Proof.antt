@@ -1,7 +1,7 @@
 -- `stream::pull` meets its contract. Assumes nothing.
 use mathlib.Core.Path.{sym}
 use lib.Seq.{length-take-le}
-use Rattle.stream.proofs.WindowSteps.{pull-fits, pull-open, pulled}
+use Rattle.stream.proofs.WindowSteps.{pull-fits, pull-open, pull-part, pulled}
 use borrow.Author.Needs.{needs}
 use Rattle.stream.proofs.pull.Statement.{statement}
 use Rattle.stream.proofs.pull.Tie as tie
@@ -14,54 +14,49 @@ slice-reshare-prefix-wanted c = search needs
 
 slice-aggregate-wanted : tie.Need-slice-aggregate-wanted
 slice-aggregate-wanted c =
-    let moved = c .before .before .before in
+    let moved = c .before .before .before .shift in
     let start = c .before .before .before .before .before .before .before in
     let x = start .args in
-    sym (length-take-le _ _ (pull-fits (x .from) (x .n) (x .taken) (x .window .now) (x .piece .now) (moved .shift .last .0) (start .pre) (moved .shift .ensures)))
+    sym (length-take-le _ _ (pull-fits (x .from) (x .n) (x .taken) (x .window .now) (x .piece .now) (moved .last .0) (start .pre) (moved .ensures)))
 
 sub-wanted : tie.Need-sub-wanted
 sub-wanted c = search needs
 
 wanted-requires : tie.Need-wanted-requires
 wanted-requires c κs =
-    let moved = c .before .before .before in
+    let moved = c .before .before .before .shift in
     let start = c .before .before .before .before .before .before .before in
     let x = start .args in
-    pull-open (x .from) (x .n) (x .taken) (x .window .now) (x .piece .now) (moved .shift .last .0) (start .pre) (moved .shift .ensures)
+    pull-open (x .from) (x .n) (x .taken) (x .window .now) (x .piece .now) (moved .last .0) (start .pre) (moved .ensures)
 
 add-end : tie.Need-add-end
 add-end c = search needs
 
-sub-copy : tie.Need-sub-copy
-sub-copy c = search needs
+sub-copy-part : tie.Need-sub-copy-part
+sub-copy-part c = search needs
 
-part-copy-start : tie.Need-part-copy-start
-part-copy-start c = search needs
+part-copy-part-start : tie.Need-part-copy-part-start
+part-copy-part-start c = search needs
 
-part-copy-end : tie.Need-part-copy-end
-part-copy-end c = search needs
+part-copy-part-end : tie.Need-part-copy-part-end
+part-copy-part-end c = search needs
 
-sub-copy-2 : tie.Need-sub-copy-2
-sub-copy-2 c = search needs
-
-part-copy-start-2 : tie.Need-part-copy-start-2
-part-copy-start-2 c = search needs
-
-part-copy-end-2 : tie.Need-part-copy-end-2
-part-copy-end-2 c = search needs
-
-copy-requires : tie.Need-copy-requires
-copy-requires c κs = search needs
+copy-part-requires : tie.Need-copy-part-requires
+copy-part-requires c κs =
+    let moved = c .before .before .before .before .before .shift in
+    let start = c .before .before .before .before .before .before .before .before .before in
+    let x = start .args in
+    pull-part (x .from) (x .n) (x .taken) (x .window .now) (x .piece .now) (moved .last .0) (start .pre) (moved .ensures) _ (c .before .wanted .ensures)
 
 same-length : tie.Need-same-length
 same-length c = search needs
 
 returns : tie.Need-returns
 returns c =
-    let moved = c .before .before .before .before .before .before .before .before .before in
-    let start = c .before .before .before .before .before .before .before .before .before .before .before .before .before in
+    let moved = c .before .before .before .before .before .before .before .before .shift in
+    let start = c .before .before .before .before .before .before .before .before .before .before .before .before in
     let x = start .args in
-    pulled (x .from) (x .n) (x .taken) (x .window .now) (x .piece .now) (moved .shift .last .0) (start .pre) (moved .shift .ensures) _ _ (c .before .before .before .before .before .wanted .ensures) (c .before .before .copy .ensures)
+    pulled (x .from) (x .n) (x .taken) (x .window .now) (x .piece .now) (moved .last .0) (start .pre) (moved .ensures) _ (c .before .before .before .before .wanted .ensures) _ (c .before .before .copy-part .ensures)
 
 pub pull-spec : {M : Type 1} → statement M
 pull-spec =
@@ -73,12 +68,9 @@ pull-spec =
     sub-wanted
     wanted-requires
     add-end
-    sub-copy
-    part-copy-start
-    part-copy-end
-    sub-copy-2
-    part-copy-start-2
-    part-copy-end-2
-    copy-requires
+    sub-copy-part
+    part-copy-part-start
+    part-copy-part-end
+    copy-part-requires
     same-length
     returns)
