@@ -2,6 +2,7 @@
 use Prim.Native.Nat.{_≤_}
 use mathlib.Core.Path.{sym, _∙_}
 use lib.ListN.{length}
+use native.Mathlib.Omega.{arith}
 use Rattle.stream.proofs.WindowSteps.{cleared}
 use Rattle.stream.proofs.CallSteps.{feed-allowed, call-refused, allowed-fits, came-fits, call-goes}
 use borrow.Author.Needs.{needs}
@@ -40,7 +41,7 @@ sub-clear c =
     let opened = sym (c .before .before .before .before .before .before .before .before .before .before .checks .ensures) ∙ c .before .before .before .before .before .before .before .before .enum-told .given .1 in
     let a = feed-allowed _ _ _ _ opened in
     let h : reply .result .state .held ≤ length (divided .last .1 .1 .1 .1 .0) = rw (reply .ensures) (came-fits (x .ended) (x .state .total) _ (x .piece .now) (x .window .now) (x .output .now) (divided .result) (divided .last .1 .1 .1 .1 .0) (divided .last .1 .1 .1 .1 .1 .0) (a .fits) (divided .ensures) .1) in
-    h
+    omega (arith, h, a .held, a .window)
 
 part-clear-start : tie.Need-part-clear-start
 part-clear-start c =
@@ -51,7 +52,7 @@ part-clear-start c =
     let opened = sym (c .before .before .before .before .before .before .before .before .before .before .checks .ensures) ∙ c .before .before .before .before .before .before .before .before .enum-told .given .1 in
     let a = feed-allowed _ _ _ _ opened in
     let h : reply .result .state .held ≤ length (divided .last .1 .1 .1 .1 .0) = rw (reply .ensures) (came-fits (x .ended) (x .state .total) _ (x .piece .now) (x .window .now) (x .output .now) (divided .result) (divided .last .1 .1 .1 .1 .0) (divided .last .1 .1 .1 .1 .1 .0) (a .fits) (divided .ensures) .1) in
-    h
+    omega (arith, h, a .held, a .window)
 
 part-clear-end : tie.Need-part-clear-end
 part-clear-end c = search needs

@@ -3,6 +3,7 @@ use Prim.Native.Nat.{_-_}
 use mathlib.Core.Path.{sym}
 use lib.ListN.{length}
 use lib.Seq.{length-take-le}
+use native.Mathlib.Omega.{arith}
 use Rattle.stream.proofs.TurnSteps.{Filling, filling-begins, filling-held, turn-inside, turn-ends, turn-message, turn-given, turn-within, turn-gap, turn-place-fits, turn-place, turn-pull-fits, turn-more, turn-on, turn-on-fits, turn-less}
 use borrow.Author.Needs.{needs}
 use Rattle.stream.proofs.divide.Statement.{statement}
@@ -62,14 +63,14 @@ shift-requires c κs =
     let loop = c .before .before .before .before .before .before .before .before .before .before .before .loop in
     let start = c .before .before .before .before .before .before .before .before .before .before .before .before .before .before .before in
     let x = start .args in
-    turn-ends (x .ended) (x .held) (x .gap) (x .window .now) (x .output .now) (x .piece .now) (loop .held) (loop .gap) (loop .taken) (loop .window) (loop .output) (loop .inv) (start .pre) _ (c .before .before .before .before .before .before .before .before .before .walk .ensures) _ _ _ (c .before .before .before .before .before .before .before .walked .given .1) .1
+    omega (arith, turn-ends (x .ended) (x .held) (x .gap) (x .window .now) (x .output .now) (x .piece .now) (loop .held) (loop .gap) (loop .taken) (loop .window) (loop .output) (loop .inv) (start .pre) _ (c .before .before .before .before .before .before .before .before .before .walk .ensures) _ _ _ (c .before .before .before .before .before .before .before .walked .given .1) .1)
 
 add-t24 : tie.Need-add-t24 Inv-loop μ-loop
 add-t24 c =
     let loop = c .before .before .before .before .before .before .before .before .before .before .before .before .before .before .loop in
     let start = c .before .before .before .before .before .before .before .before .before .before .before .before .before .before .before .before .before .before in
     let x = start .args in
-    turn-ends (x .ended) (x .held) (x .gap) (x .window .now) (x .output .now) (x .piece .now) (loop .held) (loop .gap) (loop .taken) (loop .window) (loop .output) (loop .inv) (start .pre) _ (c .before .before .before .before .before .before .before .before .before .before .before .before .walk .ensures) _ _ _ (c .before .before .before .before .before .before .before .before .before .before .walked .given .1) .2
+    omega (arith, turn-inside (x .ended) (x .held) (x .gap) (x .window .now) (x .output .now) (x .piece .now) (loop .held) (loop .gap) (loop .taken) (loop .window) (loop .output) (loop .inv) (start .pre) _ (c .before .before .before .before .before .before .before .before .before .before .before .before .walk .ensures) _ _ _ (c .before .before .before .before .before .before .before .before .before .before .walked .given .1), loop .inv, start .pre)
 
 same-length : tie.Need-same-length Inv-loop μ-loop
 same-length c = search needs

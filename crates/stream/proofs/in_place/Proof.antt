@@ -1,4 +1,5 @@
 -- `stream::in_place` meets its contract: where the walk over the piece stops is what the feed comes to. Assumes nothing.
+use native.Mathlib.Omega.{arith}
 use Rattle.stream.proofs.TurnSteps.{place-end, place-message, place-rest, place-sums, place-given, place-open, place-gap, place-more}
 use borrow.Author.Needs.{needs}
 use Rattle.stream.proofs.in_place.Statement.{statement}
@@ -47,7 +48,7 @@ add-t23 : tie.Need-add-t23
 add-t23 c =
     let start = c .before .before .before .before .before .before .before .before .before .before .before .before .before .before .before .before in
     let x = start .args in
-    place-sums (x .gap) (x .taken) (x .piece .now) (x .window .now) (x .output .now) (start .pre) _ (c .before .before .before .before .before .before .before .before .before .before .before .walk .ensures) _ _ _ (c .before .before .before .before .before .before .before .before .before .walked .given .1) .1
+    omega (arith, place-sums (x .gap) (x .taken) (x .piece .now) (x .window .now) (x .output .now) (start .pre) _ (c .before .before .before .before .before .before .before .before .before .before .before .walk .ensures) _ _ _ (c .before .before .before .before .before .before .before .before .before .walked .given .1) .1, place-end (x .gap) (x .taken) (x .piece .now) (x .window .now) (x .output .now) (start .pre) _ (c .before .before .before .before .before .before .before .before .before .before .before .walk .ensures) _ _ _ (c .before .before .before .before .before .before .before .before .before .walked .given .1))
 
 sub-t24 : tie.Need-sub-t24
 sub-t24 c =
