@@ -20,7 +20,7 @@ use Rattle.stream.specs.declared.Outcome.{Outcome}
 use Rattle.stream.specs.declared.Outcome.the-variants.{Message, Nothing}
 use Rattle.stream.specs.Scan.{scan}
 use Rattle.stream.specs.Feed.{Fed, fed, feed, finish}
-use Rattle.stream.specs.Reader.{room, limit, bad, laid, checked, feedCheckedBy, feedChecked, Call, Leaves, fedCall, feedCall, finishedCall, finishCall}
+use Rattle.stream.specs.Reader.{room, limit, bad, laid, checked, feedCheckedBy, feedChecked, Leaves, fedCall, feedCall, finishedCall, finishCall}
 use Rattle.stream.specs.Steps.{Allowed, Given, CameTo, replyTo, callBy}
 use Rattle.stream.proofs.WindowSteps.{laid-take}
 

@@ -22,7 +22,11 @@ loop-holds c =
     filling-begins (x .ended) (x .held) (x .gap) (x .window .now) (x .output .now) (x .piece .now) (start .pre .0)
 
 slice-reshare-prefix-walk : tie.Need-slice-reshare-prefix-walk Inv-loop μ-loop
-slice-reshare-prefix-walk c = search needs
+slice-reshare-prefix-walk c =
+    let loop = c .loop in
+    let start = c .before .before .before .before in
+    let x = start .args in
+    filling-held (x .ended) (x .held) (x .gap) (x .window .now) (x .output .now) (x .piece .now) (loop .held) (loop .gap) (loop .taken) (loop .window) (loop .output) (loop .inv) (start .pre)
 
 slice-aggregate-walk : tie.Need-slice-aggregate-walk Inv-loop μ-loop
 slice-aggregate-walk c =
@@ -73,7 +77,11 @@ add-t24 c =
     omega (arith, turn-inside (x .ended) (x .held) (x .gap) (x .window .now) (x .output .now) (x .piece .now) (loop .held) (loop .gap) (loop .taken) (loop .window) (loop .output) (loop .inv) (start .pre) _ (c .before .before .before .before .before .before .before .before .before .before .before .before .walk .ensures) _ _ _ (c .before .before .before .before .before .before .before .before .before .before .walked .given .1), loop .inv, start .pre)
 
 same-length : tie.Need-same-length Inv-loop μ-loop
-same-length c = search needs
+same-length c =
+    let loop = c .before .before .before .before .before .before .before .before .before .before .before .before .before .before .loop in
+    let start = c .before .before .before .before .before .before .before .before .before .before .before .before .before .before .before .before .before .before in
+    let x = start .args in
+    turn-given (x .ended) (x .held) (x .gap) (x .window .now) (x .output .now) (x .piece .now) (loop .held) (loop .gap) (loop .taken) (loop .window) (loop .output) (loop .inv) (start .pre) _ (c .before .before .before .before .before .before .before .before .before .before .before .before .walk .ensures) _ _ _ (c .before .before .before .before .before .before .before .before .before .before .walked .given .1) _ _ (c .before .before .before .before .before .before .copy-part .ensures) (c .before .before .shift .ensures) .same
 
 same-length-2 : tie.Need-same-length-2 Inv-loop μ-loop
 same-length-2 c = search needs
@@ -130,10 +138,14 @@ pull-requires c κs =
     turn-pull-fits (x .ended) (x .held) (x .gap) (x .window .now) (x .output .now) (x .piece .now) (loop .held) (loop .gap) (loop .taken) (loop .window) (loop .output) (loop .inv) (start .pre) _ (c .before .before .before .before .before .walk .ensures) _ (c .before .before .before .walked2 .given .1) (c .before .if1 .left)
 
 same-length-5 : tie.Need-same-length-5 Inv-loop μ-loop
-same-length-5 c = search needs
+same-length-5 c =
+    let loop = c .before .before .before .before .before .before .before .before .before .before .before .loop in
+    let start = c .before .before .before .before .before .before .before .before .before .before .before .before .before .before .before in
+    let x = start .args in
+    turn-more (x .ended) (x .held) (x .gap) (x .window .now) (x .output .now) (x .piece .now) (loop .held) (loop .gap) (loop .taken) (loop .window) (loop .output) (loop .inv) (start .pre) _ (c .before .before .before .before .before .before .before .before .before .walk .ensures) _ (c .before .before .before .before .before .before .before .walked2 .given .1) (c .before .before .before .before .before .if1 .left) _ _ (c .before .before .before .pull .ensures) (c .if2 .taken) .3
 
 same-length-6 : tie.Need-same-length-6 Inv-loop μ-loop
-same-length-6 c = search needs
+same-length-6 c = c .before .before .before .before .before .before .before .before .before .before .before .loop .inv .same-output
 
 returns-3 : tie.Need-returns-3 Inv-loop μ-loop
 returns-3 c =

@@ -6,10 +6,10 @@ use Rattle.stream.proofs.in_place.Statement.{statement}
 use Rattle.stream.proofs.in_place.Tie as tie
 
 sub-rest : tie.Need-sub-rest
-sub-rest c = search needs
+sub-rest c = c .before .before .before .pre .0
 
 part-rest-start : tie.Need-part-rest-start
-part-rest-start c = search needs
+part-rest-start c = c .before .before .before .pre .0
 
 part-rest-end : tie.Need-part-rest-end
 part-rest-end c = search needs
@@ -78,7 +78,10 @@ sub-t31 c =
     place-open (x .gap) (x .taken) (x .piece .now) (x .window .now) (x .output .now) (start .pre) _ (c .before .before .before .before .before .before .before .walk .ensures) _ (c .before .before .before .before .before .walked2 .given .1) .0
 
 same-length : tie.Need-same-length
-same-length c = search needs
+same-length c =
+    let start = c .before .before .before .before .before .before .before .before .before .before .before .before .before .before .before .before in
+    let x = start .args in
+    place-given (x .gap) (x .taken) (x .piece .now) (x .window .now) (x .output .now) (start .pre) _ (c .before .before .before .before .before .before .before .before .before .before .before .walk .ensures) _ _ _ (c .before .before .before .before .before .before .before .before .before .walked .given .1) _ _ (c .before .before .before .before .before .before .copy-part .ensures) (c .before .before .copy-part2 .ensures) .same
 
 same-length-2 : tie.Need-same-length-2
 same-length-2 c = search needs
@@ -90,7 +93,10 @@ returns c =
     place-given (x .gap) (x .taken) (x .piece .now) (x .window .now) (x .output .now) (start .pre) _ (c .before .before .before .before .before .before .before .before .before .before .before .walk .ensures) _ _ _ (c .before .before .before .before .before .before .before .before .before .walked .given .1) _ _ (c .before .before .before .before .before .before .copy-part .ensures) (c .before .before .copy-part2 .ensures)
 
 same-length-3 : tie.Need-same-length-3
-same-length-3 c = search needs
+same-length-3 c =
+    let start = c .before .before .before .before .before .before .before .before .before .before .before .before in
+    let x = start .args in
+    place-more (x .gap) (x .taken) (x .piece .now) (x .window .now) (x .output .now) (start .pre) _ (c .before .before .before .before .before .before .before .walk .ensures) _ (c .before .before .before .before .before .walked2 .given .1) _ (c .before .before .copy-part3 .ensures) .3
 
 returns-2 : tie.Need-returns-2
 returns-2 c =

@@ -10,7 +10,11 @@ shift-requires : tie.Need-shift-requires
 shift-requires c κs = search needs
 
 slice-reshare-prefix-wanted : tie.Need-slice-reshare-prefix-wanted
-slice-reshare-prefix-wanted c = search needs
+slice-reshare-prefix-wanted c =
+    let moved = c .before .before .shift in
+    let start = c .before .before .before .before .before .before in
+    let x = start .args in
+    pull-fits (x .from) (x .n) (x .taken) (x .window .now) (x .piece .now) (moved .last .0) (start .pre) (moved .ensures)
 
 slice-aggregate-wanted : tie.Need-slice-aggregate-wanted
 slice-aggregate-wanted c =
@@ -20,7 +24,7 @@ slice-aggregate-wanted c =
     sym (length-take-le _ _ (pull-fits (x .from) (x .n) (x .taken) (x .window .now) (x .piece .now) (moved .last .0) (start .pre) (moved .ensures)))
 
 sub-wanted : tie.Need-sub-wanted
-sub-wanted c = search needs
+sub-wanted c = c .before .before .before .before .before .before .before .pre .3
 
 wanted-requires : tie.Need-wanted-requires
 wanted-requires c κs =
@@ -33,10 +37,18 @@ add-end : tie.Need-add-end
 add-end c = search needs
 
 sub-copy-part : tie.Need-sub-copy-part
-sub-copy-part c = search needs
+sub-copy-part c =
+    let moved = c .before .before .before .before .shift in
+    let start = c .before .before .before .before .before .before .before .before in
+    let x = start .args in
+    pull-fits (x .from) (x .n) (x .taken) (x .window .now) (x .piece .now) (moved .last .0) (start .pre) (moved .ensures)
 
 part-copy-part-start : tie.Need-part-copy-part-start
-part-copy-part-start c = search needs
+part-copy-part-start c =
+    let moved = c .before .before .before .before .shift in
+    let start = c .before .before .before .before .before .before .before .before in
+    let x = start .args in
+    pull-fits (x .from) (x .n) (x .taken) (x .window .now) (x .piece .now) (moved .last .0) (start .pre) (moved .ensures)
 
 part-copy-part-end : tie.Need-part-copy-part-end
 part-copy-part-end c = search needs
@@ -49,7 +61,11 @@ copy-part-requires c κs =
     pull-part (x .from) (x .n) (x .taken) (x .window .now) (x .piece .now) (moved .last .0) (start .pre) (moved .ensures) _ (c .before .wanted .ensures)
 
 same-length : tie.Need-same-length
-same-length c = search needs
+same-length c =
+    let moved = c .before .before .before .before .before .before .before .before .shift in
+    let start = c .before .before .before .before .before .before .before .before .before .before .before .before in
+    let x = start .args in
+    pulled (x .from) (x .n) (x .taken) (x .window .now) (x .piece .now) (moved .last .0) (start .pre) (moved .ensures) _ (c .before .before .before .before .wanted .ensures) _ (c .before .before .copy-part .ensures) .same
 
 returns : tie.Need-returns
 returns c =
