@@ -5,5 +5,5 @@ pub mod Reach
 pub mod WindowSteps
 pub mod TurnSteps
 pub mod CallSteps
-pub mod Determined
 pub mod Cases
+pub mod Determined

@@ -1,7 +1,7 @@
 -- The stream reader's calls: what each answers and leaves in the state, the window and the output, on every input. Definitions only.
 use Prim.Native.Nat.{ℕ, _+_, _-_, _^_}
 use mathlib.Core.Path.{_≡_}
-use mathlib.Core.Bool.{cond}
+use mathlib.Core.Bool.{Bool, true, cond}
 use mathlib.Core.List.{List, _++_}
 use lib.ListN.{length, take, replicate}
 use lib.Dec.{ltb, eqb}
@@ -27,14 +27,14 @@ abbrev pub freshState : State
 freshState = record { held = 0; gap = 0; total = 0; ended = 0 }
 
 -- ---- what is refused, in rising order
--- 8: window or output has fewer than 6,136 bytes; 9: a held count above 6,136, a total above 2 ^ 48, or gap + held above total
+-- a held count above 6,136, a total above 2 ^ 48, or gap + held above total
+abbrev pub bad : ℕ → ℕ → ℕ → Bool
+bad held gap total = cond (ltb room held) true (cond (ltb limit total) true (ltb total (gap + held)))
+
+-- 8: window or output has fewer than 6,136 bytes; 9: a bad state
 unfoldable pub checked : State → ℕ → ℕ → Gate
 checked s w o =
-    cond (ltb w room) (Shut SmallBuffer)
-    (cond (ltb o room) (Shut SmallBuffer)
-    (cond (ltb room (s .held)) (Shut BadState)
-    (cond (ltb limit (s .total)) (Shut BadState)
-    (cond (ltb (s .total) (s .gap + s .held)) (Shut BadState) Open))))
+    cond (ltb w room) (Shut SmallBuffer) (cond (ltb o room) (Shut SmallBuffer) (cond (bad (s .held) (s .gap) (s .total)) (Shut BadState) Open))
 
 -- 10: feed after the end was announced; 11: total + length of the offered piece is above 2 ^ 48
 unfoldable pub feedCheckedBy : Gate → State → ℕ → Gate
@@ -64,23 +64,17 @@ pub record Leaves (c : Call) (r : Reply) (w o : List ℕ) : Type 0 where
 unfoldable pub laid : List ℕ → List ℕ → List ℕ
 laid h w = h ++ replicate (length w - length h) 0
 
--- after a message: its length, the gap before it, the bytes taken; the gap count is zero
-abbrev pub givenReply : State → ℕ → ℕ → ℕ → ℕ → ℕ → Reply
-givenReply s held length gap taken ended = record { answer = Message length gap taken; state = record { held = held; gap = 0; total = s .total + taken; ended = ended } }
-
-abbrev pub moreReply : State → ℕ → ℕ → ℕ → Reply
-moreReply s held gap taken = record { answer = NeedsMore; state = record { held = held; gap = gap; total = s .total + taken; ended = 0 } }
-
 -- a refusal gives the state back unchanged and changes no lent byte
 abbrev pub refusal : Refusal → State → List ℕ → List ℕ → Call
 refusal r s w o = record { answer = Refused r; state = s; window = w; output = o }
 
-abbrev pub called : Reply → List ℕ → List ℕ → Call
-called r w o = record { answer = r .answer; state = r .state; window = w; output = o }
-
+-- a message with its length, the gap before it and the bytes taken, after which no gap stands; or all of the piece is taken
 abbrev pub fedCall : State → List ℕ → List ℕ → List ℕ → Fed → Call
-fedCall s w o p (given g m h q) = called (givenReply s (length h) (length m) g (length p - length q) 0) (laid h w) (over m o)
-fedCall s w o p (more g h) = called (moreReply s (length h) g (length p)) (laid h w) o
+fedCall s w o p (given g m h q) =
+    let taken = length p - length q in
+    record { answer = Message (length m) g taken; state = record { held = length h; gap = 0; total = s .total + taken; ended = 0 }; window = laid h w; output = over m o }
+fedCall s w o p (more g h) =
+    record { answer = NeedsMore; state = record { held = length h; gap = g; total = s .total + length p; ended = 0 }; window = laid h w; output = o }
 
 abbrev pub feedBy : Gate → State → List ℕ → List ℕ → List ℕ → Call
 feedBy (Shut r) s p w o = refusal r s w o
@@ -91,7 +85,8 @@ feedCall s p w o = feedBy (feedChecked s (length w) (length o) (length p)) s p w
 
 -- finishing marks the end; at the end nothing is held, and the gap count stays for the calls after it
 abbrev pub finishedCall : State → List ℕ → List ℕ → Fed → Call
-finishedCall s w o (given g m h q) = called (givenReply s (length h) (length m) g 0 1) (laid h w) (over m o)
+finishedCall s w o (given g m h q) =
+    record { answer = Message (length m) g 0; state = record { held = length h; gap = 0; total = s .total; ended = 1 }; window = laid h w; output = over m o }
 finishedCall s w o (more g h) =
     record { answer = End g; state = record { held = length h; gap = g; total = s .total; ended = 1 }; window = laid h w; output = o }
 

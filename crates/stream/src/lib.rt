@@ -4,15 +4,18 @@ use division::Walked;
 use front::Claim;
 use refusal::Refusal;
 ghost use mathlib.Core.Path.{_≡_};
-ghost use mathlib.Core.List.{[], _++_};
-ghost use Prim.Native.Nat.{ℕ, _+_, _-_, _^_, _<_, _≤_};
-ghost use lib.ListN.{length, take, drop, replicate};
+ghost use mathlib.Core.Bool.{true};
+ghost use mathlib.Core.List.{[]};
+ghost use Prim.Native.Nat.{_+_, _-_, _^_, _<_, _≤_};
+ghost use lib.ListN.{length, take, drop};
 ghost use lib.Seq.{paste};
+ghost use mir.Val.{boolByte};
 ghost use Rattle.octets.specs.Parts.{over};
 ghost use Rattle.front.specs.Look.{need};
-ghost use Rattle.stream.specs.Feed.{feed, finish};
-ghost use Rattle.stream.specs.Reader.{freshState, checked, feedChecked, laid, givenReply, moreReply, fedCall, finishedCall, feedCall, finishCall, Leaves};
-ghost use Rattle.stream.specs.Steps.{Allowed, Opened, Turned, FilledAs, Gave, Left};
+ghost use Rattle.stream.specs.Scan.{scan};
+ghost use Rattle.stream.specs.Feed.{fed, feed};
+ghost use Rattle.stream.specs.Reader.{freshState, bad, feedChecked, feedCall, finishCall, Leaves};
+ghost use Rattle.stream.specs.Steps.{Pulled, CameTo, noMessage, replyTo, callBy};
 
 // The bytes held in the window, the gap bytes before them, all bytes taken, and whether the end was announced (0, or anything else).
 #[repr(C)]
@@ -43,81 +46,70 @@ enum Gate {
     Open,
 }
 
-// A turn over the held bytes: a message, after so many of them, of so many; all of the piece is taken, with so many held and so many gap bytes;
-// nothing is held any more, after so many gap bytes; or it goes on with so many held and so many gap bytes, after so many bytes more.
-enum Turn {
-    Message(usize, usize),
-    More(usize, usize),
-    Empty(usize),
-    On(usize, usize, usize),
-}
-
-// What the turns come to: a message with its gap, its place among so many held bytes, and its length, after so many bytes of the piece; all of the
-// piece is taken, with so many held and so many gap bytes; or nothing is held any more, after so many gap bytes and so many bytes of the piece.
-enum Filled {
-    Message {
-        gap: usize,
-        at: usize,
-        length: usize,
-        held: usize,
-        taken: usize,
-    },
-    More(usize, usize),
-    Empty(usize, usize),
+// What a call comes to: a message with its length, or none; then the gap bytes, the bytes of the piece taken, and the bytes held at the front of
+// the window after it.
+enum Outcome {
+    Message(usize, usize, usize, usize),
+    Nothing(usize, usize, usize),
 }
 
 // ---- what is refused
 
-// The buffers and the state: 8, then 9.
-fn checks(state: State, window: usize, output: usize) -> Gate
-    ensures { λ r. ⌜ r ≡ checked state window output ⌝ }
+// A state that no call leaves.
+fn bad_state(held: usize, gap: usize, total: usize) -> bool
+    ensures { λ r. ⌜ r ≡ bad held gap total ⌝ }
 {
-    let held = state.held;
-    let gap = state.gap;
-    let total = state.total;
+    if 6136 < held {
+        return true;
+    }
+    if 281474976710656 < total {
+        return true;
+    }
+    if total < gap {
+        return true;
+    }
+    total - gap < held
+}
+
+// 8, 9, 10 and 11 in rising order. A finish is checked as a feed of no bytes for which no end was announced.
+fn checks(
+    held: usize,
+    gap: usize,
+    total: usize,
+    ended: u64,
+    window: usize,
+    output: usize,
+    piece: usize,
+) -> Gate
+    ensures { λ r. ⌜ r ≡ feedChecked (record { held = held; gap = gap; total = total; ended = ended }) window output piece ⌝ }
+{
     if window < 6136 {
         return Gate::Refused(Refusal::SmallBuffer);
     }
     if output < 6136 {
         return Gate::Refused(Refusal::SmallBuffer);
     }
-    if 6136 < held {
+    if bad_state(held, gap, total) {
         return Gate::Refused(Refusal::BadState);
     }
-    if 281474976710656 < total {
-        return Gate::Refused(Refusal::BadState);
+    if ended != 0 {
+        return Gate::Refused(Refusal::Ended);
     }
-    if total < gap {
-        return Gate::Refused(Refusal::BadState);
-    }
-    if total - gap < held {
-        return Gate::Refused(Refusal::BadState);
+    if 281474976710656 - total < piece {
+        return Gate::Refused(Refusal::TooMuch);
     }
     Gate::Open
 }
 
-// And for a feed: 10, then 11.
-fn feed_checks(state: State, window: usize, output: usize, piece: usize) -> Gate
-    ensures { λ r. ⌜ r ≡ feedChecked state window output piece ⌝ }
-{
-    let gate = checks(state, window, output);
-    match gate {
-        Gate::Refused(refusal) => Gate::Refused(refusal),
-        Gate::Open => {
-            let total = state.total;
-            let ended = state.ended;
-            if ended != 0 {
-                return Gate::Refused(Refusal::Ended);
-            }
-            if 281474976710656 - total < piece as u64 {
-                return Gate::Refused(Refusal::TooMuch);
-            }
-            Gate::Open
-        }
-    }
-}
-
 // ---- bytes that move
+
+// The bytes from index `from` up to index `to`, over the front of the buffer.
+fn copy_part(bytes: &[u8], from: usize, to: usize, buffer: &mut [u8])
+    requires { ⌜ (from ≤ to) × (to ≤ length (now bytes)) × (to - from ≤ length (now buffer)) ⌝ }
+    ensures { λ _. ⌜ now (buffer .exit) ≡ over (take (to - from) (drop from (now (bytes .entry)))) (now (buffer .entry)) ⌝ }
+{
+    octets::copy(&bytes[from..to], buffer);
+}
 
 // The n bytes from index `from` on, to the front of the window.
 fn shift(window: &mut [u8], from: usize, n: usize)
@@ -134,44 +126,7 @@ fn shift(window: &mut [u8], from: usize, n: usize)
     }
 }
 
-// All of the bytes, into the buffer from index `at` on.
-fn append(bytes: &[u8], buffer: &mut [u8], at: usize)
-    requires { ⌜ at + length (now bytes) ≤ length (now buffer) ⌝ }
-    ensures { λ _. ⌜ now (buffer .exit) ≡ paste (now (buffer .entry)) at (now (bytes .entry)) (length (now (bytes .entry))) ⌝ }
-{
-    octets::copy(bytes, &mut buffer[at..]);
-}
-
-// Zeros from index `from` on.
-fn clear(window: &mut [u8], from: usize)
-    requires { ⌜ from ≤ length (now window) ⌝ }
-    ensures { λ _. ⌜ now (window .exit) ≡ take from (now (window .entry)) ++ replicate (length (now (window .entry)) - from) 0 ⌝ }
-{
-    octets::clear(&mut window[from..]);
-}
-
-// The held bytes at the front of the window, zeros behind them.
-fn lay(held: &[u8], window: &mut [u8])
-    requires { ⌜ length (now held) ≤ length (now window) ⌝ }
-    ensures { λ _. ⌜ now (window .exit) ≡ laid (now (held .entry)) (now (window .entry)) ⌝ }
-{
-    append(held, window, 0);
-    clear(window, held.len());
-}
-
-// ---- the held bytes, turn by turn
-
-// The bytes that have to be here before more can be said of the first position.
-fn needs(bytes: &[u8]) -> usize
-    ensures { λ r. ⌜ r ≡ need (now (bytes .entry)) ⌝ }
-{
-    let claim = front::claims(bytes);
-    match claim {
-        Claim::Nothing => 0,
-        Claim::AtLeast(n) => n,
-        Claim::Long(n) => n,
-    }
-}
+// ---- a feed
 
 fn least(a: usize, b: usize) -> usize
     ensures { λ r. ⌜ (r ≤ a) × (r ≤ b) × (0 < a → 0 < b → 0 < r) ⌝ }
@@ -179,68 +134,89 @@ fn least(a: usize, b: usize) -> usize
     if a < b { a } else { b }
 }
 
-// The first unsettled position, k bytes on: its bytes go to the front, and as many bytes of the piece as it needs, or there are, behind them.
-fn go_on(held: usize, gap: usize, k: usize, window: &mut [u8], piece: &[u8]) -> Turn
-    requires { ⌜ Opened held gap k (now window) ⌝ }
-    ensures { λ r. ⌜ Turned held gap (now (window .entry)) (now (piece .entry)) r (now (window .exit)) ⌝ }
+// How many bytes of a piece an unsettled position takes: as many as have to be here before more can be said of it, or all.
+fn wanted(held: &[u8], piece: usize) -> usize
+    requires { ⌜ length (now held) < need (now held) ⌝ }
+    ensures { λ r. ⌜ (length (now (held .entry)) + r ≤ need (now (held .entry))) × (r ≤ piece) × (r ≡ 0 → piece ≡ 0) ⌝ }
 {
-    let left = held - k;
-    if left == 0 {
-        return Turn::Empty(gap + k);
+    if piece == 0 {
+        return 0;
     }
-    shift(window, k, left);
-    if piece.len() == 0 {
-        return Turn::More(left, gap + k);
+    let claim = front::claims(held);
+    match claim {
+        Claim::Nothing => 0,
+        Claim::AtLeast(n) => least(n - held.len(), piece),
+        Claim::Long(n) => least(n - held.len(), piece),
     }
-    let wanted = needs(&window[..left]);
-    let taken = least(wanted - left, piece.len());
-    append(&piece[..taken], window, left);
-    Turn::On(left + taken, gap + k, taken)
 }
 
-fn one_turn(held: usize, gap: usize, window: &mut [u8], piece: &[u8]) -> Turn
-    requires { ⌜ (held ≤ 6136) × (6136 ≤ length (now window)) × (gap + held < 2 ^ 62) ⌝ }
-    ensures { λ r. ⌜ Turned held gap (now (window .entry)) (now (piece .entry)) r (now (window .exit)) ⌝ }
+// The n bytes from an unsettled position on go to the front of the window, and the bytes of the piece that they want behind them: so many.
+fn pull(from: usize, n: usize, taken: usize, piece: &[u8], window: &mut [u8]) -> usize
+    requires { ⌜ (from + n ≤ length (now window)) × (6136 ≤ length (now window)) × (n < need (take n (drop from (now window)))) × (taken ≤ length (now piece)) ⌝ }
+    ensures { λ r. ⌜ Pulled n (take n (drop from (now (window .entry)))) (now (window .entry)) (drop taken (now (piece .entry))) r (now (window .exit)) ⌝ }
 {
-    let walked = division::walk(false, &window[..held]);
+    shift(window, from, n);
+    let more = wanted(&window[..n], piece.len() - taken);
+    let end = taken + more;
+    copy_part(piece, taken, end, &mut window[n..]);
+    more
+}
+
+// The rest of a feed once `taken` bytes of the piece are taken, nothing is held and `gap` bytes stand before: the piece is divided where it stands.
+fn in_place(gap: usize, taken: usize, piece: &[u8], window: &mut [u8], output: &mut [u8]) -> Outcome
+    requires { ⌜ (taken ≤ length (now piece)) × (6136 ≤ length (now window)) × (6136 ≤ length (now output)) × (gap + length (now piece) < 2 ^ 63) ⌝ }
+    ensures { λ r. ⌜ CameTo (feed [] gap (drop taken (now (piece .entry)))) (now (piece .entry)) (now (window .entry)) (now (output .entry)) r (now (window .exit)) (now (output .exit)) ⌝ }
+{
+    let rest = &piece[taken..];
+    let walked = division::walk(false, rest);
     match walked {
-        Walked::Message(k, n, _) => Turn::Message(k, n),
-        Walked::Unsettled(k) => go_on(held, gap, k, window, piece),
+        Walked::Message(at, length, reach) => {
+            let end = at + length;
+            copy_part(rest, at, end, output);
+            copy_part(rest, end, reach, window);
+            Outcome::Message(length, gap + at, taken + reach, reach - end)
+        }
+        Walked::Unsettled(at) => {
+            copy_part(rest, at, rest.len(), window);
+            Outcome::Nothing(gap + at, piece.len(), rest.len() - at)
+        }
     }
 }
 
-// Turn after turn, until a message is settled, all is taken, or no held byte is left.
-fn fill(held: usize, gap: usize, window: &mut [u8], piece: &[u8]) -> Filled
-    requires { ⌜ (held ≤ 6136) × (6136 ≤ length (now window)) × (gap + held + length (now piece) < 2 ^ 62) ⌝ }
-    ensures { λ r. ⌜ FilledAs held gap (now (window .entry)) (now (piece .entry)) r (now (window .exit)) ⌝ }
+// Turn after turn over the held bytes, until a message is settled, all of the piece is taken, or no byte is held and the piece can be divided.
+fn divide(
+    ended: bool,
+    mut held: usize,
+    mut gap: usize,
+    piece: &[u8],
+    window: &mut [u8],
+    output: &mut [u8],
+) -> Outcome
+    requires { ⌜ (held ≤ 6136) × (6136 ≤ length (now window)) × (6136 ≤ length (now output)) × (gap + held + length (now piece) < 2 ^ 62) ⌝ }
+    ensures { λ r. ⌜ CameTo (fed (now (piece .entry)) (scan ended (take held (now (window .entry))) gap)) (now (piece .entry)) (now (window .entry)) (now (output .entry)) r (now (window .exit)) (now (output .exit)) ⌝ }
 {
-    let mut h = held;
-    let mut g = gap;
     let mut taken = 0;
     loop {
-        if h == 0 {
-            return Filled::Empty(g, taken);
-        }
-        let turn = one_turn(h, g, window, &piece[taken..]);
-        match turn {
-            Turn::Message(at, length) => {
-                return Filled::Message {
-                    gap: g + at,
-                    at,
-                    length,
-                    held: h,
-                    taken,
-                };
+        let walked = division::walk(ended, &window[..held]);
+        match walked {
+            Walked::Message(at, length, _) => {
+                let end = at + length;
+                let left = held - end;
+                copy_part(window, at, end, output);
+                shift(window, end, left);
+                return Outcome::Message(length, gap + at, taken, left);
             }
-            Turn::More(left, before) => {
-                return Filled::More(left, before);
-            }
-            Turn::Empty(before) => {
-                return Filled::Empty(before, taken);
-            }
-            Turn::On(left, before, more) => {
-                h = left;
-                g = before;
+            Walked::Unsettled(at) => {
+                held = held - at;
+                gap = gap + at;
+                if held == 0 {
+                    return in_place(gap, taken, piece, window, output);
+                }
+                let more = pull(at, held, taken, piece, window);
+                if more == 0 {
+                    return Outcome::Nothing(gap, taken, held);
+                }
+                held = held + more;
                 taken = taken + more;
             }
         }
@@ -249,129 +225,87 @@ fn fill(held: usize, gap: usize, window: &mut [u8], piece: &[u8]) -> Filled
 
 // ---- replies
 
-// After a message: so many bytes are held, and no gap stands before them.
-fn gives(state: State, held: usize, size: usize, gap: usize, taken: usize, ended: u64) -> Reply
-    requires { ⌜ state .total + taken < 2 ^ 64 ⌝ }
-    ensures { λ r. ⌜ r ≡ givenReply state held size gap taken ended ⌝ }
+fn state_of(held: usize, gap: usize, total: usize, ended: bool) -> State
+    ensures { λ r. ⌜ r ≡ record { held = held; gap = gap; total = total; ended = boolByte ended } ⌝ }
 {
-    Reply {
-        answer: Answer::Message {
-            length: size as u64,
-            gap: gap as u64,
-            taken: taken as u64,
+    State {
+        held: held as u64,
+        gap: gap as u64,
+        total: total as u64,
+        ended: ended as u64,
+    }
+}
+
+// The answer with no message: the end, or more is needed.
+fn none(ended: bool, gap: usize) -> Answer
+    ensures { λ r. ⌜ r ≡ noMessage ended gap ⌝ }
+{
+    if ended {
+        return Answer::End { gap: gap as u64 };
+    }
+    Answer::NeedsMore
+}
+
+// After a message no gap stands before the bytes held.
+fn reply_of(total: usize, ended: bool, outcome: Outcome) -> Reply
+    requires { ⌜ replyTo total ended outcome .state .total < 2 ^ 64 ⌝ }
+    ensures { λ r. ⌜ r ≡ replyTo total ended outcome ⌝ }
+{
+    match outcome {
+        Outcome::Message(length, gap, taken, held) => Reply {
+            answer: Answer::Message {
+                length: length as u64,
+                gap: gap as u64,
+                taken: taken as u64,
+            },
+            state: state_of(held, 0, total + taken, ended),
         },
-        state: State {
-            held: held as u64,
-            gap: 0,
-            total: state.total + taken as u64,
-            ended,
+        Outcome::Nothing(gap, taken, held) => Reply {
+            answer: none(ended, gap),
+            state: state_of(held, gap, total + taken, ended),
         },
     }
 }
 
-// All of the piece is taken.
-fn wants_more(state: State, held: usize, gap: usize, taken: usize) -> Reply
-    requires { ⌜ state .total + taken < 2 ^ 64 ⌝ }
-    ensures { λ r. ⌜ r ≡ moreReply state held gap taken ⌝ }
-{
-    Reply {
-        answer: Answer::NeedsMore,
-        state: State {
-            held: held as u64,
-            gap: gap as u64,
-            total: state.total + taken as u64,
-            ended: 0,
-        },
-    }
-}
+// ---- the calls
 
-// The message of `size` bytes at index `at` of the held ones goes to the output, and the bytes past it to the front of the window, zeros behind them.
-fn give(at: usize, size: usize, held: usize, window: &mut [u8], output: &mut [u8])
-    requires { ⌜ (at + size ≤ held) × (held ≤ length (now window)) × (size ≤ length (now output)) ⌝ }
-    ensures { λ _. ⌜ Gave at size (take held (now (window .entry))) (now (window .entry)) (now (output .entry)) (now (window .exit)) (now (output .exit)) ⌝ }
-{
-    let end = at + size;
-    append(&window[at..end], output, 0);
-    let left = held - end;
-    shift(window, end, left);
-    clear(window, left);
-}
-
-// The same from a piece, of which the first `reach` bytes are taken.
-fn give_from(
-    piece: &[u8],
-    at: usize,
-    size: usize,
-    reach: usize,
-    window: &mut [u8],
-    output: &mut [u8],
-)
-    requires { ⌜ (at + size ≤ reach) × (reach ≤ length (now piece)) × (reach - (at + size) ≤ length (now window)) × (size ≤ length (now output)) ⌝ }
-    ensures { λ _. ⌜ Gave at size (take reach (now (piece .entry))) (now (window .entry)) (now (output .entry)) (now (window .exit)) (now (output .exit)) ⌝ }
-{
-    let end = at + size;
-    append(&piece[at..end], output, 0);
-    lay(&piece[end..reach], window);
-}
-
-// ---- a feed
-
-// The rest of a feed once `taken` bytes of the piece are taken, nothing is held and `gap` bytes stand before: the piece is divided where it stands.
-fn in_place(
+// A feed, or a finish of no bytes, for which no end counts as announced.
+fn call(
+    ended: bool,
+    announced: u64,
     state: State,
-    gap: usize,
-    taken: usize,
     piece: &[u8],
     window: &mut [u8],
     output: &mut [u8],
 ) -> Reply
-    requires { ⌜ Left state gap taken (now piece) (now window) (now output) ⌝ }
-    ensures { λ r. ⌜ Leaves (fedCall state (now (window .entry)) (now (output .entry)) (now (piece .entry)) (feed [] gap (drop taken (now (piece .entry))))) r (now (window .exit)) (now (output .exit)) ⌝ }
-{
-    let rest = &piece[taken..];
-    let walked = division::walk(false, rest);
-    match walked {
-        Walked::Message(at, length, reach) => {
-            give_from(rest, at, length, reach, window, output);
-            gives(
-                state,
-                reach - (at + length),
-                length,
-                gap + at,
-                taken + reach,
-                0,
-            )
-        }
-        Walked::Unsettled(at) => {
-            lay(&rest[at..], window);
-            wants_more(state, rest.len() - at, gap + at, piece.len())
-        }
-    }
-}
-
-fn feed_on(state: State, piece: &[u8], window: &mut [u8], output: &mut [u8]) -> Reply
-    requires { ⌜ Allowed state (length (now window)) (length (now output)) (length (now piece)) ⌝ }
-    ensures { λ r. ⌜ Leaves (fedCall state (now (window .entry)) (now (output .entry)) (now (piece .entry)) (feed (take (state .held) (now (window .entry))) (state .gap) (now (piece .entry)))) r (now (window .exit)) (now (output .exit)) ⌝ }
+    requires { ⌜ (ended ≡ true → length (now piece) ≡ 0) ⌝ }
+    ensures { λ r. ⌜ Leaves (callBy ended (feedChecked (record { held = state .held; gap = state .gap; total = state .total; ended = announced }) (length (now (window .entry))) (length (now (output .entry))) (length (now (piece .entry)))) state (now (piece .entry)) (now (window .entry)) (now (output .entry))) r (now (window .exit)) (now (output .exit)) ⌝ }
 {
     let held = state.held as usize;
     let gap = state.gap as usize;
-    let filled = fill(held, gap, window, piece);
-    match filled {
-        Filled::Message {
-            gap: before,
-            at,
-            length,
-            held: here,
-            taken,
-        } => {
-            give(at, length, here, window, output);
-            gives(state, here - (at + length), length, before, taken, 0)
+    let total = state.total as usize;
+    let gate = checks(
+        held,
+        gap,
+        total,
+        announced,
+        window.len(),
+        output.len(),
+        piece.len(),
+    );
+    match gate {
+        Gate::Refused(refusal) => Reply {
+            answer: Answer::Refused(refusal),
+            state,
+        },
+        Gate::Open => {
+            let outcome = divide(ended, held, gap, piece, window, output);
+            let reply = reply_of(total, ended, outcome);
+            let left = reply.state.held as usize;
+            // Zeros stand behind the bytes held.
+            octets::clear(&mut window[left..]);
+            reply
         }
-        Filled::More(left, before) => {
-            clear(window, left);
-            wants_more(state, left, before, piece.len())
-        }
-        Filled::Empty(before, taken) => in_place(state, before, taken, piece, window, output),
     }
 }
 
@@ -379,68 +313,19 @@ fn feed_on(state: State, piece: &[u8], window: &mut [u8], output: &mut [u8]) -> 
 pub fn feed(state: State, piece: &[u8], window: &mut [u8], output: &mut [u8]) -> Reply
     ensures { λ r. ⌜ Leaves (feedCall state (now (piece .entry)) (now (window .entry)) (now (output .entry))) r (now (window .exit)) (now (output .exit)) ⌝ }
 {
-    let gate = feed_checks(state, window.len(), output.len(), piece.len());
-    match gate {
-        Gate::Refused(refusal) => Reply {
-            answer: Answer::Refused(refusal),
-            state,
-        },
-        Gate::Open => feed_on(state, piece, window, output),
-    }
-}
-
-// ---- finishing
-
-fn finish_on(state: State, window: &mut [u8], output: &mut [u8]) -> Reply
-    requires { ⌜ Allowed state (length (now window)) (length (now output)) 0 ⌝ }
-    ensures { λ r. ⌜ Leaves (finishedCall state (now (window .entry)) (now (output .entry)) (finish (take (state .held) (now (window .entry))) (state .gap))) r (now (window .exit)) (now (output .exit)) ⌝ }
-{
-    let held = state.held as usize;
-    let gap = state.gap as usize;
-    let walked = division::walk(true, &window[..held]);
-    match walked {
-        Walked::Message(at, length, _) => {
-            give(at, length, held, window, output);
-            gives(state, held - (at + length), length, gap + at, 0, 1)
-        }
-        Walked::Unsettled(at) => {
-            clear(window, 0);
-            let all = (gap + at) as u64;
-            Reply {
-                answer: Answer::End { gap: all },
-                state: State {
-                    held: 0,
-                    gap: all,
-                    total: state.total,
-                    ended: 1,
-                },
-            }
-        }
-    }
+    call(false, state.ended, state, piece, window, output)
 }
 
 // The end of the stream: the remaining messages one a call, then the end, the same each time after (8, 9).
 pub fn finish(state: State, window: &mut [u8], output: &mut [u8]) -> Reply
     ensures { λ r. ⌜ Leaves (finishCall state (now (window .entry)) (now (output .entry))) r (now (window .exit)) (now (output .exit)) ⌝ }
 {
-    let gate = checks(state, window.len(), output.len());
-    match gate {
-        Gate::Refused(refusal) => Reply {
-            answer: Answer::Refused(refusal),
-            state,
-        },
-        Gate::Open => finish_on(state, window, output),
-    }
+    call(true, 0, state, b"", window, output)
 }
 
 // The state before the first byte.
 pub fn fresh() -> State
     ensures { λ r. ⌜ r ≡ freshState ⌝ }
 {
-    State {
-        held: 0,
-        gap: 0,
-        total: 0,
-        ended: 0,
-    }
+    state_of(0, 0, 0, false)
 }

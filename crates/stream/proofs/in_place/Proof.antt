@@ -1,19 +1,15 @@
 -- `stream::in_place` meets its contract: where the walk over the piece stops is what the feed comes to. Assumes nothing.
-use Prim.Native.Nat.{_-_}
-use mathlib.Core.Path.{refl}
 use native.Mathlib.Omega.{arith}
-use lib.ListN.{length, take, drop, length-drop, length-take}
-use Rattle.stream.proofs.CallSteps.{rest-long, place-given, place-more}
-use Rattle.stream.proofs.Reach.{fed-message, fed-more}
+use Rattle.stream.proofs.TurnSteps.{place-end, place-message, place-rest, place-sums, place-given, place-open, place-gap, place-more}
 use borrow.Author.Needs.{needs}
 use Rattle.stream.proofs.in_place.Statement.{statement}
 use Rattle.stream.proofs.in_place.Tie as tie
 
 sub-rest : tie.Need-sub-rest
-sub-rest c = search needs
+sub-rest c = c .before .before .before .pre .0
 
 part-rest-start : tie.Need-part-rest-start
-part-rest-start c = search needs
+part-rest-start c = c .before .before .before .pre .0
 
 part-rest-end : tie.Need-part-rest-end
 part-rest-end c = search needs
@@ -24,142 +20,89 @@ walk-requires c κs = search needs
 enum-known-walked : tie.Need-enum-known-walked
 enum-known-walked c = search needs
 
-give-from-requires : tie.Need-give-from-requires
-give-from-requires c κs =
-    let told = c .before .before .before in
-    let walk = told .before .before in
-    let start = walk .before .before .before .before .before in
+add-end : tie.Need-add-end
+add-end c =
+    let start = c .before .before .before .before .before .before .before .before in
     let x = start .args in
-    let f = fed-message (take (length (x .piece .now) - x .taken) (drop (x .taken) (x .piece .now))) _ (walk .walk .ensures) _ _ _ (told .walked .given .1) in
-    (f .inside, f .within, omega (arith, f .held, start .pre .window), omega (arith, f .size, start .pre .output))
+    place-sums (x .gap) (x .taken) (x .piece .now) (x .window .now) (x .output .now) (start .pre) _ (c .before .before .before .walk .ensures) _ _ _ (c .before .walked .given .1) .2
 
-add-gives : tie.Need-add-gives
-add-gives c =
-    let told = c .before .before .before .before .before .before .before .before in
-    let walk = told .before .before in
-    let start = walk .before .before .before .before .before in
+copy-part-requires : tie.Need-copy-part-requires
+copy-part-requires c κs =
+    let start = c .before .before .before .before .before .before .before .before .before in
     let x = start .args in
-    let f = fed-message (take (length (x .piece .now) - x .taken) (drop (x .taken) (x .piece .now))) _ (walk .walk .ensures) _ _ _ (told .walked .given .1) in
-    omega (arith, f .inside, f .within, f .size, f .held, rest-long (x .state) (x .gap) (x .taken) (x .piece .now) (x .window .now) (x .output .now) (start .pre) _ refl, start .pre .within, start .pre .window, start .pre .output, start .pre .small, start .pre .fits)
+    place-message (x .gap) (x .taken) (x .piece .now) (x .window .now) (x .output .now) (start .pre) _ (c .before .before .before .before .walk .ensures) _ _ _ (c .before .before .walked .given .1)
 
-sub-gives : tie.Need-sub-gives
-sub-gives c =
-    let told = c .before .before .before .before .before .before .before .before in
-    let walk = told .before .before in
-    let start = walk .before .before .before .before .before in
+copy-part-requires-2 : tie.Need-copy-part-requires-2
+copy-part-requires-2 c κs =
+    let start = c .before .before .before .before .before .before .before .before .before .before .before .before .before in
     let x = start .args in
-    let f = fed-message (take (length (x .piece .now) - x .taken) (drop (x .taken) (x .piece .now))) _ (walk .walk .ensures) _ _ _ (told .walked .given .1) in
-    omega (arith, f .inside, f .within, f .size, f .held, rest-long (x .state) (x .gap) (x .taken) (x .piece .now) (x .window .now) (x .output .now) (start .pre) _ refl, start .pre .within, start .pre .window, start .pre .output, start .pre .small, start .pre .fits)
+    place-rest (x .gap) (x .taken) (x .piece .now) (x .window .now) (x .output .now) (start .pre) _ (c .before .before .before .before .before .before .before .before .walk .ensures) _ _ _ (c .before .before .before .before .before .before .walked .given .1)
 
-add-gives-2 : tie.Need-add-gives-2
-add-gives-2 c =
-    let told = c .before .before .before .before .before .before .before .before in
-    let walk = told .before .before in
-    let start = walk .before .before .before .before .before in
+add-t22 : tie.Need-add-t22
+add-t22 c =
+    let start = c .before .before .before .before .before .before .before .before .before .before .before .before .before .before .before .before in
     let x = start .args in
-    let f = fed-message (take (length (x .piece .now) - x .taken) (drop (x .taken) (x .piece .now))) _ (walk .walk .ensures) _ _ _ (told .walked .given .1) in
-    omega (arith, f .inside, f .within, f .size, f .held, rest-long (x .state) (x .gap) (x .taken) (x .piece .now) (x .window .now) (x .output .now) (start .pre) _ refl, start .pre .within, start .pre .window, start .pre .output, start .pre .small, start .pre .fits)
+    place-sums (x .gap) (x .taken) (x .piece .now) (x .window .now) (x .output .now) (start .pre) _ (c .before .before .before .before .before .before .before .before .before .before .before .walk .ensures) _ _ _ (c .before .before .before .before .before .before .before .before .before .walked .given .1) .0
 
-add-gives-3 : tie.Need-add-gives-3
-add-gives-3 c =
-    let told = c .before .before .before .before .before .before .before .before in
-    let walk = told .before .before in
-    let start = walk .before .before .before .before .before in
+add-t23 : tie.Need-add-t23
+add-t23 c =
+    let start = c .before .before .before .before .before .before .before .before .before .before .before .before .before .before .before .before in
     let x = start .args in
-    let f = fed-message (take (length (x .piece .now) - x .taken) (drop (x .taken) (x .piece .now))) _ (walk .walk .ensures) _ _ _ (told .walked .given .1) in
-    omega (arith, f .inside, f .within, f .size, f .held, rest-long (x .state) (x .gap) (x .taken) (x .piece .now) (x .window .now) (x .output .now) (start .pre) _ refl, start .pre .within, start .pre .window, start .pre .output, start .pre .small, start .pre .fits)
+    omega (arith, place-sums (x .gap) (x .taken) (x .piece .now) (x .window .now) (x .output .now) (start .pre) _ (c .before .before .before .before .before .before .before .before .before .before .before .walk .ensures) _ _ _ (c .before .before .before .before .before .before .before .before .before .walked .given .1) .1, place-end (x .gap) (x .taken) (x .piece .now) (x .window .now) (x .output .now) (start .pre) _ (c .before .before .before .before .before .before .before .before .before .before .before .walk .ensures) _ _ _ (c .before .before .before .before .before .before .before .before .before .walked .given .1))
 
-gives-requires : tie.Need-gives-requires
-gives-requires c κs =
-    let told = c .before .before .before .before .before .before .before .before in
-    let walk = told .before .before in
-    let start = walk .before .before .before .before .before in
+sub-t24 : tie.Need-sub-t24
+sub-t24 c =
+    let start = c .before .before .before .before .before .before .before .before .before .before .before .before .before .before .before .before in
     let x = start .args in
-    let f = fed-message (take (length (x .piece .now) - x .taken) (drop (x .taken) (x .piece .now))) _ (walk .walk .ensures) _ _ _ (told .walked .given .1) in
-    omega (arith, f .inside, f .within, f .size, f .held, rest-long (x .state) (x .gap) (x .taken) (x .piece .now) (x .window .now) (x .output .now) (start .pre) _ refl, start .pre .within, start .pre .window, start .pre .output, start .pre .small, start .pre .fits)
+    place-end (x .gap) (x .taken) (x .piece .now) (x .window .now) (x .output .now) (start .pre) _ (c .before .before .before .before .before .before .before .before .before .before .before .walk .ensures) _ _ _ (c .before .before .before .before .before .before .before .before .before .walked .given .1)
 
 enum-known-walked-2 : tie.Need-enum-known-walked-2
 enum-known-walked-2 c = search needs
 
-sub-lay : tie.Need-sub-lay
-sub-lay c =
-    let told = c .before in
-    let walk = told .before .before in
-    let start = walk .before .before .before .before .before in
+copy-part-requires-3 : tie.Need-copy-part-requires-3
+copy-part-requires-3 c κs =
+    let start = c .before .before .before .before .before .before .before .before .before in
     let x = start .args in
-    let f = fed-more (take (length (x .piece .now) - x .taken) (drop (x .taken) (x .piece .now))) _ (walk .walk .ensures) _ (told .walked2 .given .1) in
-    omega (arith, f .within, f .held, rest-long (x .state) (x .gap) (x .taken) (x .piece .now) (x .window .now) (x .output .now) (start .pre) _ refl, start .pre .within, start .pre .window, start .pre .small, start .pre .fits)
+    place-open (x .gap) (x .taken) (x .piece .now) (x .window .now) (x .output .now) (start .pre) _ (c .before .before .before .before .walk .ensures) _ (c .before .before .walked2 .given .1)
 
-part-lay-start : tie.Need-part-lay-start
-part-lay-start c =
-    let told = c .before in
-    let walk = told .before .before in
-    let start = walk .before .before .before .before .before in
+add-t26 : tie.Need-add-t26
+add-t26 c =
+    let start = c .before .before .before .before .before .before .before .before .before .before .before .before in
     let x = start .args in
-    let f = fed-more (take (length (x .piece .now) - x .taken) (drop (x .taken) (x .piece .now))) _ (walk .walk .ensures) _ (told .walked2 .given .1) in
-    omega (arith, f .within, f .held, rest-long (x .state) (x .gap) (x .taken) (x .piece .now) (x .window .now) (x .output .now) (start .pre) _ refl, start .pre .within, start .pre .window, start .pre .small, start .pre .fits)
+    place-gap (x .gap) (x .taken) (x .piece .now) (x .window .now) (x .output .now) (start .pre) _ (c .before .before .before .before .before .before .before .walk .ensures) _ (c .before .before .before .before .before .walked2 .given .1)
 
-part-lay-end : tie.Need-part-lay-end
-part-lay-end c = search needs
-
-lay-requires : tie.Need-lay-requires
-lay-requires c κs =
-    let told = c .before .before .before in
-    let walk = told .before .before in
-    let start = walk .before .before .before .before .before in
+sub-t31 : tie.Need-sub-t31
+sub-t31 c =
+    let start = c .before .before .before .before .before .before .before .before .before .before .before .before in
     let x = start .args in
-    let f = fed-more (take (length (x .piece .now) - x .taken) (drop (x .taken) (x .piece .now))) _ (walk .walk .ensures) _ (told .walked2 .given .1) in
-    simp (length-take, length-drop) (omega (arith, f .within, f .held, rest-long (x .state) (x .gap) (x .taken) (x .piece .now) (x .window .now) (x .output .now) (start .pre) _ refl, start .pre .within, start .pre .window, start .pre .small, start .pre .fits))
-
-sub-wants-more : tie.Need-sub-wants-more
-sub-wants-more c =
-    let told = c .before .before .before .before .before .before in
-    let walk = told .before .before in
-    let start = walk .before .before .before .before .before in
-    let x = start .args in
-    let f = fed-more (take (length (x .piece .now) - x .taken) (drop (x .taken) (x .piece .now))) _ (walk .walk .ensures) _ (told .walked2 .given .1) in
-    omega (arith, f .within, f .held, rest-long (x .state) (x .gap) (x .taken) (x .piece .now) (x .window .now) (x .output .now) (start .pre) _ refl, start .pre .within, start .pre .window, start .pre .small, start .pre .fits)
-
-add-wants-more : tie.Need-add-wants-more
-add-wants-more c =
-    let told = c .before .before .before .before .before .before in
-    let walk = told .before .before in
-    let start = walk .before .before .before .before .before in
-    let x = start .args in
-    let f = fed-more (take (length (x .piece .now) - x .taken) (drop (x .taken) (x .piece .now))) _ (walk .walk .ensures) _ (told .walked2 .given .1) in
-    omega (arith, f .within, f .held, rest-long (x .state) (x .gap) (x .taken) (x .piece .now) (x .window .now) (x .output .now) (start .pre) _ refl, start .pre .within, start .pre .window, start .pre .small, start .pre .fits)
-
-wants-more-requires : tie.Need-wants-more-requires
-wants-more-requires c κs = search needs
+    place-open (x .gap) (x .taken) (x .piece .now) (x .window .now) (x .output .now) (start .pre) _ (c .before .before .before .before .before .before .before .walk .ensures) _ (c .before .before .before .before .before .walked2 .given .1) .0
 
 same-length : tie.Need-same-length
-same-length c = search needs
+same-length c =
+    let start = c .before .before .before .before .before .before .before .before .before .before .before .before .before .before .before .before in
+    let x = start .args in
+    place-given (x .gap) (x .taken) (x .piece .now) (x .window .now) (x .output .now) (start .pre) _ (c .before .before .before .before .before .before .before .before .before .before .before .walk .ensures) _ _ _ (c .before .before .before .before .before .before .before .before .before .walked .given .1) _ _ (c .before .before .before .before .before .before .copy-part .ensures) (c .before .before .copy-part2 .ensures) .same
 
 same-length-2 : tie.Need-same-length-2
 same-length-2 c = search needs
 
 returns : tie.Need-returns
 returns c =
-    let gave = c .before .before .before .before .before in
-    let told = gave .before .before .before .before in
-    let walk = told .before .before in
-    let start = walk .before .before .before .before .before in
+    let start = c .before .before .before .before .before .before .before .before .before .before .before .before .before .before .before .before in
     let x = start .args in
-    let f = fed-message (take (length (x .piece .now) - x .taken) (drop (x .taken) (x .piece .now))) _ (walk .walk .ensures) _ _ _ (told .walked .given .1) in
-    place-given (x .state) (x .gap) (x .taken) (x .piece .now) (x .window .now) (x .output .now) (start .pre) _ refl _ _ _ _ _ _ f (gave .give-from .ensures) (c .gives .ensures)
+    place-given (x .gap) (x .taken) (x .piece .now) (x .window .now) (x .output .now) (start .pre) _ (c .before .before .before .before .before .before .before .before .before .before .before .walk .ensures) _ _ _ (c .before .before .before .before .before .before .before .before .before .walked .given .1) _ _ (c .before .before .before .before .before .before .copy-part .ensures) (c .before .before .copy-part2 .ensures)
 
 same-length-3 : tie.Need-same-length-3
-same-length-3 c = search needs
+same-length-3 c =
+    let start = c .before .before .before .before .before .before .before .before .before .before .before .before in
+    let x = start .args in
+    place-more (x .gap) (x .taken) (x .piece .now) (x .window .now) (x .output .now) (start .pre) _ (c .before .before .before .before .before .before .before .walk .ensures) _ (c .before .before .before .before .before .walked2 .given .1) _ (c .before .before .copy-part3 .ensures) .3
 
 returns-2 : tie.Need-returns-2
 returns-2 c =
-    let rest = c .before .before .before in
-    let told = rest .before .before .before .before in
-    let walk = told .before .before in
-    let start = walk .before .before .before .before .before in
+    let start = c .before .before .before .before .before .before .before .before .before .before .before .before in
     let x = start .args in
-    let f = fed-more (take (length (x .piece .now) - x .taken) (drop (x .taken) (x .piece .now))) _ (walk .walk .ensures) _ (told .walked2 .given .1) in
-    place-more (x .state) (x .gap) (x .taken) (x .piece .now) (x .window .now) (x .output .now) (start .pre) _ refl _ _ _ f (rest .lay .ensures) (c .wants-more .ensures)
+    place-more (x .gap) (x .taken) (x .piece .now) (x .window .now) (x .output .now) (start .pre) _ (c .before .before .before .before .before .before .before .walk .ensures) _ (c .before .before .before .before .before .walked2 .given .1) _ (c .before .before .copy-part3 .ensures)
 
 pub in-place-spec : {M : Type 1} → statement M
 in-place-spec =
@@ -170,20 +113,16 @@ in-place-spec =
     part-rest-end
     walk-requires
     enum-known-walked
-    give-from-requires
-    add-gives
-    sub-gives
-    add-gives-2
-    add-gives-3
-    gives-requires
+    add-end
+    copy-part-requires
+    copy-part-requires-2
+    add-t22
+    add-t23
+    sub-t24
     enum-known-walked-2
-    sub-lay
-    part-lay-start
-    part-lay-end
-    lay-requires
-    sub-wants-more
-    add-wants-more
-    wants-more-requires
+    copy-part-requires-3
+    add-t26
+    sub-t31
     same-length
     same-length-2
     returns
