@@ -269,7 +269,7 @@ fn reply_of(total: usize, ended: bool, outcome: Outcome) -> Reply
 
 // ---- the calls
 
-// A feed, or a finish of no bytes, for which no end counts as announced.
+// A feed; or, with `ended`, a finish: of no bytes, and as if no end had been announced.
 fn call(
     ended: bool,
     announced: u64,
