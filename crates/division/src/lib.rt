@@ -132,8 +132,7 @@ fn settle(ended: bool, bytes: &[u8], at: usize, reach: usize) -> Step
     requires { ⌜ at < length (now bytes) ⌝ }
     ensures { λ r. ⌜ Stepped ended (now (bytes .entry)) at reach r ⌝ }
 {
-    let claim = front::claims(&bytes[at..]);
-    match claim {
+    match front::claims(&bytes[at..]) {
         Claim::Nothing => Step::On(next_start(bytes, at + 1), reach),
         Claim::AtLeast(_) => wants(ended, at, reach),
         Claim::Long(n) => {
@@ -157,8 +156,7 @@ pub fn walk(ended: bool, bytes: &[u8]) -> Walked
     let mut at = 0;
     let mut reach = 0;
     while at < bytes.len() {
-        let stepped = settle(ended, bytes, at, reach);
-        match stepped {
+        match settle(ended, bytes, at, reach) {
             Step::On(next, needed) => {
                 at = next;
                 reach = needed;
@@ -180,8 +178,7 @@ pub fn next_message(recording: &[u8], start: usize) -> Next
     if recording.len() < start {
         return Next::Refused(Refusal::PastEnd);
     }
-    let walked = walk(true, &recording[start..]);
-    match walked {
+    match walk(true, &recording[start..]) {
         Walked::Message(gap, length, _) => Next::Message {
             position: start + gap,
             length,
@@ -197,8 +194,7 @@ pub fn message_part(recording: &[u8], start: usize) -> &[u8]
         × (ptr r .1 ≡ ptr (recording .entry) .1 + placeOf (nextOf (now (recording .entry)) start))
         × (now r ≡ bytesIn (now (recording .entry)) (nextOf (now (recording .entry)) start)) ⌝ }
 {
-    let next = next_message(recording, start);
-    match next {
+    match next_message(recording, start) {
         Next::Message {
             position,
             length,

@@ -26,17 +26,13 @@ fn counts(form: Form, bytes: &[u8]) -> Claim
 pub fn claims(bytes: &[u8]) -> Claim
     ensures { λ r. ⌜ r ≡ claim (now (bytes .entry)) ⌝ }
 {
-    let new = octets::fits(&macm::NEW_SYNC, bytes);
-    match new {
+    match octets::fits(&macm::NEW_SYNC, bytes) {
         Fit::Whole => counts(Form::New { signal: 0, tfom: 0 }, bytes),
         Fit::Part => Claim::AtLeast(bytes.len() + 1),
-        Fit::Bad => {
-            let old = octets::fits(&macm::OLD_SYNC, bytes);
-            match old {
-                Fit::Whole => counts(Form::Old { version: 0 }, bytes),
-                Fit::Part => Claim::AtLeast(bytes.len() + 1),
-                Fit::Bad => Claim::Nothing,
-            }
-        }
+        Fit::Bad => match octets::fits(&macm::OLD_SYNC, bytes) {
+            Fit::Whole => counts(Form::Old { version: 0 }, bytes),
+            Fit::Part => Claim::AtLeast(bytes.len() + 1),
+            Fit::Bad => Claim::Nothing,
+        },
     }
 }

@@ -55,8 +55,7 @@ pub fn fits(t: &[u8], s: &[u8]) -> Fit
 pub fn starts(t: &[u8], s: &[u8]) -> bool
     ensures { λ r. ⌜ r ≡ begins (now (t .entry)) (now (s .entry)) ⌝ }
 {
-    let f = fits(t, s);
-    match f {
+    match fits(t, s) {
         Fit::Whole => true,
         Fit::Part => false,
         Fit::Bad => false,

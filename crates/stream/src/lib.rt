@@ -56,7 +56,7 @@ enum Outcome {
 // ---- what is refused
 
 // A state that no call leaves.
-fn bad_state(held: usize, gap: usize, total: usize) -> bool
+fn bad_state(held: u64, gap: u64, total: u64) -> bool
     ensures { λ r. ⌜ r ≡ bad held gap total ⌝ }
 {
     if 6136 < held {
@@ -72,16 +72,8 @@ fn bad_state(held: usize, gap: usize, total: usize) -> bool
 }
 
 // 8, 9, 10 and 11 in rising order. A finish is checked as a feed of no bytes for which no end was announced.
-fn checks(
-    held: usize,
-    gap: usize,
-    total: usize,
-    ended: u64,
-    window: usize,
-    output: usize,
-    piece: usize,
-) -> Gate
-    ensures { λ r. ⌜ r ≡ feedChecked (record { held = held; gap = gap; total = total; ended = ended }) window output piece ⌝ }
+fn checks(state: State, announced: u64, window: usize, output: usize, piece: usize) -> Gate
+    ensures { λ r. ⌜ r ≡ feedChecked (record { held = state .held; gap = state .gap; total = state .total; ended = announced }) window output piece ⌝ }
 {
     if window < 6136 {
         return Gate::Refused(Refusal::SmallBuffer);
@@ -89,13 +81,13 @@ fn checks(
     if output < 6136 {
         return Gate::Refused(Refusal::SmallBuffer);
     }
-    if bad_state(held, gap, total) {
+    if bad_state(state.held, state.gap, state.total) {
         return Gate::Refused(Refusal::BadState);
     }
-    if ended != 0 {
+    if announced != 0 {
         return Gate::Refused(Refusal::Ended);
     }
-    if 281474976710656 - total < piece {
+    if 281474976710656 - state.total < piece as u64 {
         return Gate::Refused(Refusal::TooMuch);
     }
     Gate::Open
@@ -142,8 +134,7 @@ fn wanted(held: &[u8], piece: usize) -> usize
     if piece == 0 {
         return 0;
     }
-    let claim = front::claims(held);
-    match claim {
+    match front::claims(held) {
         Claim::Nothing => 0,
         Claim::AtLeast(n) => least(n - held.len(), piece),
         Claim::Long(n) => least(n - held.len(), piece),
@@ -168,8 +159,7 @@ fn in_place(gap: usize, taken: usize, piece: &[u8], window: &mut [u8], output: &
     ensures { λ r. ⌜ CameTo (feed [] gap (drop taken (now (piece .entry)))) (now (piece .entry)) (now (window .entry)) (now (output .entry)) r (now (window .exit)) (now (output .exit)) ⌝ }
 {
     let rest = &piece[taken..];
-    let walked = division::walk(false, rest);
-    match walked {
+    match division::walk(false, rest) {
         Walked::Message(at, length, reach) => {
             let end = at + length;
             copy_part(rest, at, end, output);
@@ -197,8 +187,7 @@ fn divide(
 {
     let mut taken = 0;
     loop {
-        let walked = division::walk(ended, &window[..held]);
-        match walked {
+        match division::walk(ended, &window[..held]) {
             Walked::Message(at, length, _) => {
                 let end = at + length;
                 let left = held - end;
@@ -284,16 +273,7 @@ fn call(
     let held = state.held as usize;
     let gap = state.gap as usize;
     let total = state.total as usize;
-    let gate = checks(
-        held,
-        gap,
-        total,
-        announced,
-        window.len(),
-        output.len(),
-        piece.len(),
-    );
-    match gate {
+    match checks(state, announced, window.len(), output.len(), piece.len()) {
         Gate::Refused(refusal) => Reply {
             answer: Answer::Refused(refusal),
             state,

@@ -11,11 +11,11 @@ use Rattle.division.proofs.message_part.Tie as tie
 next-message-requires : tie.Need-next-message-requires
 next-message-requires c κs = search needs
 
-enum-known-next : tie.Need-enum-known-next
-enum-known-next c = search needs
+enum-known-position : tie.Need-enum-known-position
+enum-known-position c = search needs
 
 add-end : tie.Need-add-end
-add-end c = let a = c .before .before .before .before .before .args in omega (arith, given-within (a .recording .now) (a .start) _ _ _ _ (c .before .before .before .next-message .ensures) (c .before .next .given .1))
+add-end c = let a = c .before .before .before .before .before .args in omega (arith, given-within (a .recording .now) (a .start) _ _ _ _ (c .before .before .before .next-message .ensures) (c .before .position .given .1))
 
 sub-result : tie.Need-sub-result
 sub-result c = search needs
@@ -24,7 +24,7 @@ part-result-start : tie.Need-part-result-start
 part-result-start c = search needs
 
 part-result-end : tie.Need-part-result-end
-part-result-end c = let a = c .before .before .before .before .before .args in omega (arith, given-within (a .recording .now) (a .start) _ _ _ _ (c .before .before .before .next-message .ensures) (c .before .next .given .1))
+part-result-end c = let a = c .before .before .before .before .before .args in omega (arith, given-within (a .recording .now) (a .start) _ _ _ _ (c .before .before .before .next-message .ensures) (c .before .position .given .1))
 
 enum-told : tie.Need-enum-told
 enum-told c = search needs
@@ -52,9 +52,9 @@ part-result-end-3 c = search needs
 
 returns : tie.Need-returns
 returns c =
-    let e = sym (c .before .before .before .before .next-message .ensures) ∙ c .before .before .next .given .1 in
-    let position = c .before .before .next .given .0 .0 in
-    let length = c .before .before .next .given .0 .1 .0 in
+    let e = sym (c .before .before .before .before .next-message .ensures) ∙ c .before .before .position .given .1 in
+    let position = c .before .before .position .given .0 .0 in
+    let length = c .before .before .position .given .0 .1 .0 in
     let z : position + length - position ≡ length = omega arith in
     rw e (search needs, search needs, ap (λ n. take n (drop position (c .before .before .before .before .before .before .args .recording .now))) z)
 
@@ -69,7 +69,7 @@ message-part-spec =
     tie.close
     (tie.spec
     next-message-requires
-    enum-known-next
+    enum-known-position
     add-end
     sub-result
     part-result-start

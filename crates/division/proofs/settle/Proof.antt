@@ -32,8 +32,8 @@ enum-told-2 c = search needs
 wants-requires : tie.Need-wants-requires
 wants-requires c κs = search needs
 
-enum-known-claim : tie.Need-enum-known-claim
-enum-known-claim c = search needs
+enum-known-n : tie.Need-enum-known-n
+enum-known-n c = search needs
 
 sub-if1 : tie.Need-sub-if1
 sub-if1 c = search needs
@@ -47,7 +47,7 @@ returns c =
     let claims = told .before .before in
     let start = claims .before .before .before in
     let a = start .args in
-    rw (c .wants2 .ensures) (short (a .ended) (a .bytes .now) (a .reach) (a .at) (start .pre) _ (claimed (a .bytes .now) (a .at) _ (claims .claims .ensures) ∙ told .claim .given .1) (c .before .if1 .taken))
+    rw (c .wants2 .ensures) (short (a .ended) (a .bytes .now) (a .reach) (a .at) (start .pre) _ (claimed (a .bytes .now) (a .at) _ (claims .claims .ensures) ∙ told .n .given .1) (c .before .if1 .taken))
 
 add-end : tie.Need-add-end
 add-end c = search needs
@@ -73,7 +73,7 @@ returns-2 c =
     let claims = told .before .before in
     let start = claims .before .before .before in
     let a = start .args in
-    agreed (a .ended) (a .bytes .now) (a .reach) (a .at) (start .pre) _ (claimed (a .bytes .now) (a .at) _ (claims .claims .ensures) ∙ told .claim .given .1) (c .before .before .before .before .if1 .left) _ (c .before .before .before .furthest .ensures)
+    agreed (a .ended) (a .bytes .now) (a .reach) (a .at) (start .pre) _ (claimed (a .bytes .now) (a .at) _ (claims .claims .ensures) ∙ told .n .given .1) (c .before .before .before .before .if1 .left) _ (c .before .before .before .furthest .ensures)
     (summed (a .bytes .now) (a .at) _ _ (c .before .agreeing .ensures) ∙ c .if2 .taken)
 
 add-t17 : tie.Need-add-t17
@@ -99,7 +99,7 @@ returns-5 c =
     let claims = told .before .before in
     let start = claims .before .before .before in
     let a = start .args in
-    damaged (a .ended) (a .bytes .now) (a .reach) (a .at) (start .pre) _ (claimed (a .bytes .now) (a .at) _ (claims .claims .ensures) ∙ told .claim .given .1) (c .before .before .before .before .if1 .left) _ (c .before .before .before .furthest .ensures)
+    damaged (a .ended) (a .bytes .now) (a .reach) (a .at) (start .pre) _ (claimed (a .bytes .now) (a .at) _ (claims .claims .ensures) ∙ told .n .given .1) (c .before .before .before .before .if1 .left) _ (c .before .before .before .furthest .ensures)
     (summed (a .bytes .now) (a .at) _ _ (c .before .agreeing .ensures) ∙ c .if2 .left)
 
 pub settle-spec : {M : Type 1} → statement M
@@ -115,7 +115,7 @@ settle-spec =
     next-start-requires
     enum-told-2
     wants-requires
-    enum-known-claim
+    enum-known-n
     sub-if1
     wants-requires-2
     returns

@@ -21,31 +21,31 @@ loop-holds c = (omega arith, refl)
 settle-requires : tie.Need-settle-requires Inv-loop μ-loop
 settle-requires c κs = search needs
 
-enum-known-stepped : tie.Need-enum-known-stepped Inv-loop μ-loop
-enum-known-stepped c = search needs
+enum-known-next : tie.Need-enum-known-next Inv-loop μ-loop
+enum-known-next c = search needs
 
 loop-less : tie.Need-loop-less Inv-loop μ-loop
 loop-less c =
     let l = c .before .before .before .before .before .loop in
     let a = c .before .before .before .before .before .before .before .args in
-    let h = stepped-on (a .ended) (a .bytes .now) (l .at) (l .reach) _ (c .before .before .before .settle .ensures) _ _ (c .before .stepped .given .1) in
+    let h = stepped-on (a .ended) (a .bytes .now) (l .at) (l .reach) _ (c .before .before .before .settle .ensures) _ _ (c .before .next .given .1) in
     omega (arith, h .0, h .1)
 
 loop-again : tie.Need-loop-again Inv-loop μ-loop
 loop-again c =
     let l = c .before .before .before .before .before .loop in
     let a = c .before .before .before .before .before .before .before .args in
-    let h = stepped-on (a .ended) (a .bytes .now) (l .at) (l .reach) _ (c .before .before .before .settle .ensures) _ _ (c .before .stepped .given .1) in
+    let h = stepped-on (a .ended) (a .bytes .now) (l .at) (l .reach) _ (c .before .before .before .settle .ensures) _ _ (c .before .next .given .1) in
     (h .1, l .inv .1 ∙ h .2)
 
-enum-known-stepped-2 : tie.Need-enum-known-stepped-2 Inv-loop μ-loop
-enum-known-stepped-2 c = search needs
+enum-known-walked : tie.Need-enum-known-walked Inv-loop μ-loop
+enum-known-walked c = search needs
 
 returns : tie.Need-returns Inv-loop μ-loop
 returns c =
     let l = c .before .before .before .before .before .loop in
     let a = c .before .before .before .before .before .before .before .args in
-    sym (l .inv .1 ∙ stepped-stop (a .ended) (a .bytes .now) (l .at) (l .reach) _ (c .before .before .before .settle .ensures) _ (c .before .stepped2 .given .1))
+    sym (l .inv .1 ∙ stepped-stop (a .ended) (a .bytes .now) (l .at) (l .reach) _ (c .before .before .before .settle .ensures) _ (c .before .walked .given .1))
 
 returns-2 : tie.Need-returns-2 Inv-loop μ-loop
 returns-2 c =
@@ -61,9 +61,9 @@ walk-spec =
     μ-loop
     loop-holds
     settle-requires
-    enum-known-stepped
+    enum-known-next
     loop-less
     loop-again
-    enum-known-stepped-2
+    enum-known-walked
     returns
     returns-2)

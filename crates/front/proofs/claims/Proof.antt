@@ -20,8 +20,8 @@ counts-requires c κs = search needs
 enum-told-2 : tie.Need-enum-told-2
 enum-told-2 c = search needs
 
-add-t11 : tie.Need-add-t11
-add-t11 c = search needs
+add-t10 : tie.Need-add-t10
+add-t10 c = search needs
 
 enum-told-3 : tie.Need-enum-told-3
 enum-told-3 c = search needs
@@ -80,7 +80,7 @@ claims-spec =
     enum-told
     counts-requires
     enum-told-2
-    add-t11
+    add-t10
     enum-told-3
     slice-aggregate-fits-2
     fits-requires-2

@@ -12,8 +12,8 @@ use Rattle.stream.proofs.call.Tie as tie
 checks-requires : tie.Need-checks-requires
 checks-requires c κs = search needs
 
-enum-known-gate : tie.Need-enum-known-gate
-enum-known-gate c = search needs
+enum-known-refusal : tie.Need-enum-known-refusal
+enum-known-refusal c = search needs
 
 enum-told : tie.Need-enum-told
 enum-told c = search needs
@@ -64,7 +64,7 @@ returns : tie.Need-returns
 returns c =
     let start = c .before .before .before .before .before .before .before in
     let x = start .args in
-    call-refused (x .ended) (x .state) (x .piece .now) (x .window .now) (x .output .now) _ _ (sym (c .before .before .before .checks .ensures) ∙ c .before .gate .given .1)
+    call-refused (x .ended) (x .state) (x .piece .now) (x .window .now) (x .output .now) _ _ (sym (c .before .before .before .checks .ensures) ∙ c .before .refusal .given .1)
 
 same-length : tie.Need-same-length
 same-length c = search needs
@@ -88,7 +88,7 @@ call-spec =
     tie.close
     (tie.spec
     checks-requires
-    enum-known-gate
+    enum-known-refusal
     enum-told
     divide-requires
     reply-of-requires

@@ -22,13 +22,23 @@ returns-4 : tie.Need-returns-4
 returns-4 c = has-ended _ _ _ _ (c .before .before .before .before .if1 .left) (c .before .before .before .if2 .left) (sym (c .before .before .bad-state .ensures) ∙ c .before .if3 .left) (c .if4 .taken)
 
 sub-if5 : tie.Need-sub-if5
-sub-if5 c = omega (arith, bad-false (c .before .before .before .before .before .args .held) (c .before .before .before .before .before .args .gap) (c .before .before .before .before .before .args .total) (sym (c .before .before .bad-state .ensures) ∙ c .before .if3 .left) .1)
+sub-if5 c =
+    let start = c .before .before .before .before .before .before in
+    omega (arith, bad-false (start .args .state .held) (start .args .state .gap) (start .args .state .total) (sym (c .before .before .before .bad-state .ensures) ∙ c .before .before .if3 .left) .1)
 
 returns-5 : tie.Need-returns-5
-returns-5 c = too-much _ _ _ _ (c .before .before .before .before .before .if1 .left) (c .before .before .before .before .if2 .left) (sym (c .before .before .before .bad-state .ensures) ∙ c .before .before .if3 .left) (c .before .if4 .left) (omega (arith, bad-false (c .before .before .before .before .before .before .args .held) (c .before .before .before .before .before .before .args .gap) (c .before .before .before .before .before .before .args .total) (sym (c .before .before .before .bad-state .ensures) ∙ c .before .before .if3 .left)))
+returns-5 c =
+    let start = c .before .before .before .before .before .before .before in
+    let good = sym (c .before .before .before .before .bad-state .ensures) ∙ c .before .before .before .if3 .left in
+    let f = bad-false (start .args .state .held) (start .args .state .gap) (start .args .state .total) good in
+    too-much _ _ _ _ (c .before .before .before .before .before .before .if1 .left) (c .before .before .before .before .before .if2 .left) good (c .before .before .if4 .left) (omega (arith, f))
 
 returns-6 : tie.Need-returns-6
-returns-6 c = goes-on _ _ _ _ (c .before .before .before .before .before .if1 .left) (c .before .before .before .before .if2 .left) (sym (c .before .before .before .bad-state .ensures) ∙ c .before .before .if3 .left) (c .before .if4 .left) (omega (arith, bad-false (c .before .before .before .before .before .before .args .held) (c .before .before .before .before .before .before .args .gap) (c .before .before .before .before .before .before .args .total) (sym (c .before .before .before .bad-state .ensures) ∙ c .before .before .if3 .left)))
+returns-6 c =
+    let start = c .before .before .before .before .before .before .before in
+    let good = sym (c .before .before .before .before .bad-state .ensures) ∙ c .before .before .before .if3 .left in
+    let f = bad-false (start .args .state .held) (start .args .state .gap) (start .args .state .total) good in
+    goes-on _ _ _ _ (c .before .before .before .before .before .before .if1 .left) (c .before .before .before .before .before .if2 .left) good (c .before .before .if4 .left) (omega (arith, f))
 
 pub checks-spec : {M : Type 1} → statement M
 checks-spec =

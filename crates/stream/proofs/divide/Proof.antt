@@ -38,50 +38,50 @@ slice-aggregate-walk c =
 walk-requires : tie.Need-walk-requires Inv-loop μ-loop
 walk-requires c κs = search needs
 
-enum-known-walked : tie.Need-enum-known-walked Inv-loop μ-loop
-enum-known-walked c = search needs
+enum-known-at : tie.Need-enum-known-at Inv-loop μ-loop
+enum-known-at c = search needs
 
 add-end : tie.Need-add-end Inv-loop μ-loop
 add-end c =
     let loop = c .before .before .before .before .before .loop in
     let start = c .before .before .before .before .before .before .before .before .before in
     let x = start .args in
-    turn-ends (x .ended) (x .held) (x .gap) (x .window .now) (x .output .now) (x .piece .now) (loop .held) (loop .gap) (loop .taken) (loop .window) (loop .output) (loop .inv) (start .pre) _ (c .before .before .before .walk .ensures) _ _ _ (c .before .walked .given .1) .0
+    turn-ends (x .ended) (x .held) (x .gap) (x .window .now) (x .output .now) (x .piece .now) (loop .held) (loop .gap) (loop .taken) (loop .window) (loop .output) (loop .inv) (start .pre) _ (c .before .before .before .walk .ensures) _ _ _ (c .before .at .given .1) .0
 
 sub-left : tie.Need-sub-left Inv-loop μ-loop
 sub-left c =
     let loop = c .before .before .before .before .before .loop in
     let start = c .before .before .before .before .before .before .before .before .before in
     let x = start .args in
-    turn-inside (x .ended) (x .held) (x .gap) (x .window .now) (x .output .now) (x .piece .now) (loop .held) (loop .gap) (loop .taken) (loop .window) (loop .output) (loop .inv) (start .pre) _ (c .before .before .before .walk .ensures) _ _ _ (c .before .walked .given .1)
+    turn-inside (x .ended) (x .held) (x .gap) (x .window .now) (x .output .now) (x .piece .now) (loop .held) (loop .gap) (loop .taken) (loop .window) (loop .output) (loop .inv) (start .pre) _ (c .before .before .before .walk .ensures) _ _ _ (c .before .at .given .1)
 
 copy-part-requires : tie.Need-copy-part-requires Inv-loop μ-loop
 copy-part-requires c κs =
     let loop = c .before .before .before .before .before .before .before .loop in
     let start = c .before .before .before .before .before .before .before .before .before .before .before in
     let x = start .args in
-    turn-message (x .ended) (x .held) (x .gap) (x .window .now) (x .output .now) (x .piece .now) (loop .held) (loop .gap) (loop .taken) (loop .window) (loop .output) (loop .inv) (start .pre) _ (c .before .before .before .before .before .walk .ensures) _ _ _ (c .before .before .before .walked .given .1)
+    turn-message (x .ended) (x .held) (x .gap) (x .window .now) (x .output .now) (x .piece .now) (loop .held) (loop .gap) (loop .taken) (loop .window) (loop .output) (loop .inv) (start .pre) _ (c .before .before .before .before .before .walk .ensures) _ _ _ (c .before .before .before .at .given .1)
 
 shift-requires : tie.Need-shift-requires Inv-loop μ-loop
 shift-requires c κs =
     let loop = c .before .before .before .before .before .before .before .before .before .before .before .loop in
     let start = c .before .before .before .before .before .before .before .before .before .before .before .before .before .before .before in
     let x = start .args in
-    omega (arith, turn-ends (x .ended) (x .held) (x .gap) (x .window .now) (x .output .now) (x .piece .now) (loop .held) (loop .gap) (loop .taken) (loop .window) (loop .output) (loop .inv) (start .pre) _ (c .before .before .before .before .before .before .before .before .before .walk .ensures) _ _ _ (c .before .before .before .before .before .before .before .walked .given .1) .1)
+    omega (arith, turn-ends (x .ended) (x .held) (x .gap) (x .window .now) (x .output .now) (x .piece .now) (loop .held) (loop .gap) (loop .taken) (loop .window) (loop .output) (loop .inv) (start .pre) _ (c .before .before .before .before .before .before .before .before .before .walk .ensures) _ _ _ (c .before .before .before .before .before .before .before .at .given .1) .1)
 
 add-t24 : tie.Need-add-t24 Inv-loop μ-loop
 add-t24 c =
     let loop = c .before .before .before .before .before .before .before .before .before .before .before .before .before .before .loop in
     let start = c .before .before .before .before .before .before .before .before .before .before .before .before .before .before .before .before .before .before in
     let x = start .args in
-    omega (arith, turn-inside (x .ended) (x .held) (x .gap) (x .window .now) (x .output .now) (x .piece .now) (loop .held) (loop .gap) (loop .taken) (loop .window) (loop .output) (loop .inv) (start .pre) _ (c .before .before .before .before .before .before .before .before .before .before .before .before .walk .ensures) _ _ _ (c .before .before .before .before .before .before .before .before .before .before .walked .given .1), loop .inv, start .pre)
+    omega (arith, turn-inside (x .ended) (x .held) (x .gap) (x .window .now) (x .output .now) (x .piece .now) (loop .held) (loop .gap) (loop .taken) (loop .window) (loop .output) (loop .inv) (start .pre) _ (c .before .before .before .before .before .before .before .before .before .before .before .before .walk .ensures) _ _ _ (c .before .before .before .before .before .before .before .before .before .before .at .given .1), loop .inv, start .pre)
 
 same-length : tie.Need-same-length Inv-loop μ-loop
 same-length c =
     let loop = c .before .before .before .before .before .before .before .before .before .before .before .before .before .before .loop in
     let start = c .before .before .before .before .before .before .before .before .before .before .before .before .before .before .before .before .before .before in
     let x = start .args in
-    turn-given (x .ended) (x .held) (x .gap) (x .window .now) (x .output .now) (x .piece .now) (loop .held) (loop .gap) (loop .taken) (loop .window) (loop .output) (loop .inv) (start .pre) _ (c .before .before .before .before .before .before .before .before .before .before .before .before .walk .ensures) _ _ _ (c .before .before .before .before .before .before .before .before .before .before .walked .given .1) _ _ (c .before .before .before .before .before .before .copy-part .ensures) (c .before .before .shift .ensures) .same
+    turn-given (x .ended) (x .held) (x .gap) (x .window .now) (x .output .now) (x .piece .now) (loop .held) (loop .gap) (loop .taken) (loop .window) (loop .output) (loop .inv) (start .pre) _ (c .before .before .before .before .before .before .before .before .before .before .before .before .walk .ensures) _ _ _ (c .before .before .before .before .before .before .before .before .before .before .at .given .1) _ _ (c .before .before .before .before .before .before .copy-part .ensures) (c .before .before .shift .ensures) .same
 
 same-length-2 : tie.Need-same-length-2 Inv-loop μ-loop
 same-length-2 c = search needs
@@ -91,31 +91,31 @@ returns c =
     let loop = c .before .before .before .before .before .before .before .before .before .before .before .before .before .before .loop in
     let start = c .before .before .before .before .before .before .before .before .before .before .before .before .before .before .before .before .before .before in
     let x = start .args in
-    turn-given (x .ended) (x .held) (x .gap) (x .window .now) (x .output .now) (x .piece .now) (loop .held) (loop .gap) (loop .taken) (loop .window) (loop .output) (loop .inv) (start .pre) _ (c .before .before .before .before .before .before .before .before .before .before .before .before .walk .ensures) _ _ _ (c .before .before .before .before .before .before .before .before .before .before .walked .given .1) _ _ (c .before .before .before .before .before .before .copy-part .ensures) (c .before .before .shift .ensures)
+    turn-given (x .ended) (x .held) (x .gap) (x .window .now) (x .output .now) (x .piece .now) (loop .held) (loop .gap) (loop .taken) (loop .window) (loop .output) (loop .inv) (start .pre) _ (c .before .before .before .before .before .before .before .before .before .before .before .before .walk .ensures) _ _ _ (c .before .before .before .before .before .before .before .before .before .before .at .given .1) _ _ (c .before .before .before .before .before .before .copy-part .ensures) (c .before .before .shift .ensures)
 
-enum-known-walked-2 : tie.Need-enum-known-walked-2 Inv-loop μ-loop
-enum-known-walked-2 c = search needs
+enum-known-at-2 : tie.Need-enum-known-at-2 Inv-loop μ-loop
+enum-known-at-2 c = search needs
 
 sub-held : tie.Need-sub-held Inv-loop μ-loop
 sub-held c =
     let loop = c .before .before .before .before .before .loop in
     let start = c .before .before .before .before .before .before .before .before .before in
     let x = start .args in
-    turn-within (x .ended) (x .held) (x .gap) (x .window .now) (x .output .now) (x .piece .now) (loop .held) (loop .gap) (loop .taken) (loop .window) (loop .output) (loop .inv) (start .pre) _ (c .before .before .before .walk .ensures) _ (c .before .walked2 .given .1)
+    turn-within (x .ended) (x .held) (x .gap) (x .window .now) (x .output .now) (x .piece .now) (loop .held) (loop .gap) (loop .taken) (loop .window) (loop .output) (loop .inv) (start .pre) _ (c .before .before .before .walk .ensures) _ (c .before .at2 .given .1)
 
 add-gap : tie.Need-add-gap Inv-loop μ-loop
 add-gap c =
     let loop = c .before .before .before .before .before .loop in
     let start = c .before .before .before .before .before .before .before .before .before in
     let x = start .args in
-    turn-gap (x .ended) (x .held) (x .gap) (x .window .now) (x .output .now) (x .piece .now) (loop .held) (loop .gap) (loop .taken) (loop .window) (loop .output) (loop .inv) (start .pre) _ (c .before .before .before .walk .ensures) _ (c .before .walked2 .given .1)
+    turn-gap (x .ended) (x .held) (x .gap) (x .window .now) (x .output .now) (x .piece .now) (loop .held) (loop .gap) (loop .taken) (loop .window) (loop .output) (loop .inv) (start .pre) _ (c .before .before .before .walk .ensures) _ (c .before .at2 .given .1)
 
 in-place-requires : tie.Need-in-place-requires Inv-loop μ-loop
 in-place-requires c κs =
     let loop = c .before .before .before .before .before .before .before .before .loop in
     let start = c .before .before .before .before .before .before .before .before .before .before .before .before in
     let x = start .args in
-    turn-place-fits (x .ended) (x .held) (x .gap) (x .window .now) (x .output .now) (x .piece .now) (loop .held) (loop .gap) (loop .taken) (loop .window) (loop .output) (loop .inv) (start .pre) _ (c .before .before .before .before .before .before .walk .ensures) _ (c .before .before .before .before .walked2 .given .1)
+    turn-place-fits (x .ended) (x .held) (x .gap) (x .window .now) (x .output .now) (x .piece .now) (loop .held) (loop .gap) (loop .taken) (loop .window) (loop .output) (loop .inv) (start .pre) _ (c .before .before .before .before .before .before .walk .ensures) _ (c .before .before .before .before .at2 .given .1)
 
 same-length-3 : tie.Need-same-length-3 Inv-loop μ-loop
 same-length-3 c = search needs
@@ -128,21 +128,21 @@ returns-2 c =
     let loop = c .before .before .before .before .before .before .before .before .before .before .before .before .before .loop in
     let start = c .before .before .before .before .before .before .before .before .before .before .before .before .before .before .before .before .before in
     let x = start .args in
-    turn-place (x .ended) (x .held) (x .gap) (x .window .now) (x .output .now) (x .piece .now) (loop .held) (loop .gap) (loop .taken) (loop .window) (loop .output) (loop .inv) (start .pre) _ (c .before .before .before .before .before .before .before .before .before .before .before .walk .ensures) _ (c .before .before .before .before .before .before .before .before .before .walked2 .given .1) (c .before .before .before .before .before .before .before .if1 .taken) (c .before .before .before .before .in-place .result) (c .before .before .before .before .in-place .last .1 .1 .1 .0) (c .before .before .before .before .in-place .last .1 .1 .1 .1 .0) (c .before .before .before .before .in-place .ensures)
+    turn-place (x .ended) (x .held) (x .gap) (x .window .now) (x .output .now) (x .piece .now) (loop .held) (loop .gap) (loop .taken) (loop .window) (loop .output) (loop .inv) (start .pre) _ (c .before .before .before .before .before .before .before .before .before .before .before .walk .ensures) _ (c .before .before .before .before .before .before .before .before .before .at2 .given .1) (c .before .before .before .before .before .before .before .if1 .taken) (c .before .before .before .before .in-place .result) (c .before .before .before .before .in-place .last .1 .1 .1 .0) (c .before .before .before .before .in-place .last .1 .1 .1 .1 .0) (c .before .before .before .before .in-place .ensures)
 
 pull-requires : tie.Need-pull-requires Inv-loop μ-loop
 pull-requires c κs =
     let loop = c .before .before .before .before .before .before .before .loop in
     let start = c .before .before .before .before .before .before .before .before .before .before .before in
     let x = start .args in
-    turn-pull-fits (x .ended) (x .held) (x .gap) (x .window .now) (x .output .now) (x .piece .now) (loop .held) (loop .gap) (loop .taken) (loop .window) (loop .output) (loop .inv) (start .pre) _ (c .before .before .before .before .before .walk .ensures) _ (c .before .before .before .walked2 .given .1) (c .before .if1 .left)
+    turn-pull-fits (x .ended) (x .held) (x .gap) (x .window .now) (x .output .now) (x .piece .now) (loop .held) (loop .gap) (loop .taken) (loop .window) (loop .output) (loop .inv) (start .pre) _ (c .before .before .before .before .before .walk .ensures) _ (c .before .before .before .at2 .given .1) (c .before .if1 .left)
 
 same-length-5 : tie.Need-same-length-5 Inv-loop μ-loop
 same-length-5 c =
     let loop = c .before .before .before .before .before .before .before .before .before .before .before .loop in
     let start = c .before .before .before .before .before .before .before .before .before .before .before .before .before .before .before in
     let x = start .args in
-    turn-more (x .ended) (x .held) (x .gap) (x .window .now) (x .output .now) (x .piece .now) (loop .held) (loop .gap) (loop .taken) (loop .window) (loop .output) (loop .inv) (start .pre) _ (c .before .before .before .before .before .before .before .before .before .walk .ensures) _ (c .before .before .before .before .before .before .before .walked2 .given .1) (c .before .before .before .before .before .if1 .left) _ _ (c .before .before .before .pull .ensures) (c .if2 .taken) .3
+    turn-more (x .ended) (x .held) (x .gap) (x .window .now) (x .output .now) (x .piece .now) (loop .held) (loop .gap) (loop .taken) (loop .window) (loop .output) (loop .inv) (start .pre) _ (c .before .before .before .before .before .before .before .before .before .walk .ensures) _ (c .before .before .before .before .before .before .before .at2 .given .1) (c .before .before .before .before .before .if1 .left) _ _ (c .before .before .before .pull .ensures) (c .if2 .taken) .3
 
 same-length-6 : tie.Need-same-length-6 Inv-loop μ-loop
 same-length-6 c = c .before .before .before .before .before .before .before .before .before .before .before .loop .inv .same-output
@@ -152,35 +152,35 @@ returns-3 c =
     let loop = c .before .before .before .before .before .before .before .before .before .before .before .loop in
     let start = c .before .before .before .before .before .before .before .before .before .before .before .before .before .before .before in
     let x = start .args in
-    turn-more (x .ended) (x .held) (x .gap) (x .window .now) (x .output .now) (x .piece .now) (loop .held) (loop .gap) (loop .taken) (loop .window) (loop .output) (loop .inv) (start .pre) _ (c .before .before .before .before .before .before .before .before .before .walk .ensures) _ (c .before .before .before .before .before .before .before .walked2 .given .1) (c .before .before .before .before .before .if1 .left) _ _ (c .before .before .before .pull .ensures) (c .if2 .taken)
+    turn-more (x .ended) (x .held) (x .gap) (x .window .now) (x .output .now) (x .piece .now) (loop .held) (loop .gap) (loop .taken) (loop .window) (loop .output) (loop .inv) (start .pre) _ (c .before .before .before .before .before .before .before .before .before .walk .ensures) _ (c .before .before .before .before .before .before .before .at2 .given .1) (c .before .before .before .before .before .if1 .left) _ _ (c .before .before .before .pull .ensures) (c .if2 .taken)
 
 add-held : tie.Need-add-held Inv-loop μ-loop
 add-held c =
     let loop = c .before .before .before .before .before .before .before .before .before .before .before .loop in
     let start = c .before .before .before .before .before .before .before .before .before .before .before .before .before .before .before in
     let x = start .args in
-    turn-on-fits (x .ended) (x .held) (x .gap) (x .window .now) (x .output .now) (x .piece .now) (loop .held) (loop .gap) (loop .taken) (loop .window) (loop .output) (loop .inv) (start .pre) _ (c .before .before .before .before .before .before .before .before .before .walk .ensures) _ (c .before .before .before .before .before .before .before .walked2 .given .1) (c .before .before .before .before .before .if1 .left) _ _ (c .before .before .before .pull .ensures) (c .if2 .left) .0
+    turn-on-fits (x .ended) (x .held) (x .gap) (x .window .now) (x .output .now) (x .piece .now) (loop .held) (loop .gap) (loop .taken) (loop .window) (loop .output) (loop .inv) (start .pre) _ (c .before .before .before .before .before .before .before .before .before .walk .ensures) _ (c .before .before .before .before .before .before .before .at2 .given .1) (c .before .before .before .before .before .if1 .left) _ _ (c .before .before .before .pull .ensures) (c .if2 .left) .0
 
 add-taken : tie.Need-add-taken Inv-loop μ-loop
 add-taken c =
     let loop = c .before .before .before .before .before .before .before .before .before .before .before .loop in
     let start = c .before .before .before .before .before .before .before .before .before .before .before .before .before .before .before in
     let x = start .args in
-    turn-on-fits (x .ended) (x .held) (x .gap) (x .window .now) (x .output .now) (x .piece .now) (loop .held) (loop .gap) (loop .taken) (loop .window) (loop .output) (loop .inv) (start .pre) _ (c .before .before .before .before .before .before .before .before .before .walk .ensures) _ (c .before .before .before .before .before .before .before .walked2 .given .1) (c .before .before .before .before .before .if1 .left) _ _ (c .before .before .before .pull .ensures) (c .if2 .left) .1
+    turn-on-fits (x .ended) (x .held) (x .gap) (x .window .now) (x .output .now) (x .piece .now) (loop .held) (loop .gap) (loop .taken) (loop .window) (loop .output) (loop .inv) (start .pre) _ (c .before .before .before .before .before .before .before .before .before .walk .ensures) _ (c .before .before .before .before .before .before .before .at2 .given .1) (c .before .before .before .before .before .if1 .left) _ _ (c .before .before .before .pull .ensures) (c .if2 .left) .1
 
 loop-less : tie.Need-loop-less Inv-loop μ-loop
 loop-less c =
     let loop = c .before .before .before .before .before .before .before .before .before .before .before .loop in
     let start = c .before .before .before .before .before .before .before .before .before .before .before .before .before .before .before in
     let x = start .args in
-    turn-less (x .ended) (x .held) (x .gap) (x .window .now) (x .output .now) (x .piece .now) (loop .held) (loop .gap) (loop .taken) (loop .window) (loop .output) (loop .inv) (start .pre) _ (c .before .before .before .before .before .before .before .before .before .walk .ensures) _ (c .before .before .before .before .before .before .before .walked2 .given .1) (c .before .before .before .before .before .if1 .left) _ _ (c .before .before .before .pull .ensures) (c .if2 .left)
+    turn-less (x .ended) (x .held) (x .gap) (x .window .now) (x .output .now) (x .piece .now) (loop .held) (loop .gap) (loop .taken) (loop .window) (loop .output) (loop .inv) (start .pre) _ (c .before .before .before .before .before .before .before .before .before .walk .ensures) _ (c .before .before .before .before .before .before .before .at2 .given .1) (c .before .before .before .before .before .if1 .left) _ _ (c .before .before .before .pull .ensures) (c .if2 .left)
 
 loop-again : tie.Need-loop-again Inv-loop μ-loop
 loop-again c =
     let loop = c .before .before .before .before .before .before .before .before .before .before .before .loop in
     let start = c .before .before .before .before .before .before .before .before .before .before .before .before .before .before .before in
     let x = start .args in
-    turn-on (x .ended) (x .held) (x .gap) (x .window .now) (x .output .now) (x .piece .now) (loop .held) (loop .gap) (loop .taken) (loop .window) (loop .output) (loop .inv) (start .pre) _ (c .before .before .before .before .before .before .before .before .before .walk .ensures) _ (c .before .before .before .before .before .before .before .walked2 .given .1) (c .before .before .before .before .before .if1 .left) _ _ (c .before .before .before .pull .ensures) (c .if2 .left)
+    turn-on (x .ended) (x .held) (x .gap) (x .window .now) (x .output .now) (x .piece .now) (loop .held) (loop .gap) (loop .taken) (loop .window) (loop .output) (loop .inv) (start .pre) _ (c .before .before .before .before .before .before .before .before .before .walk .ensures) _ (c .before .before .before .before .before .before .before .at2 .given .1) (c .before .before .before .before .before .if1 .left) _ _ (c .before .before .before .pull .ensures) (c .if2 .left)
 
 pub divide-spec : {M : Type 1} → statement M
 divide-spec =
@@ -192,7 +192,7 @@ divide-spec =
     slice-reshare-prefix-walk
     slice-aggregate-walk
     walk-requires
-    enum-known-walked
+    enum-known-at
     add-end
     sub-left
     copy-part-requires
@@ -201,7 +201,7 @@ divide-spec =
     same-length
     same-length-2
     returns
-    enum-known-walked-2
+    enum-known-at-2
     sub-held
     add-gap
     in-place-requires

@@ -17,71 +17,71 @@ part-rest-end c = search needs
 walk-requires : tie.Need-walk-requires
 walk-requires c κs = search needs
 
-enum-known-walked : tie.Need-enum-known-walked
-enum-known-walked c = search needs
+enum-known-at : tie.Need-enum-known-at
+enum-known-at c = search needs
 
 add-end : tie.Need-add-end
 add-end c =
     let start = c .before .before .before .before .before .before .before .before in
     let x = start .args in
-    place-sums (x .gap) (x .taken) (x .piece .now) (x .window .now) (x .output .now) (start .pre) _ (c .before .before .before .walk .ensures) _ _ _ (c .before .walked .given .1) .2
+    place-sums (x .gap) (x .taken) (x .piece .now) (x .window .now) (x .output .now) (start .pre) _ (c .before .before .before .walk .ensures) _ _ _ (c .before .at .given .1) .2
 
 copy-part-requires : tie.Need-copy-part-requires
 copy-part-requires c κs =
     let start = c .before .before .before .before .before .before .before .before .before in
     let x = start .args in
-    place-message (x .gap) (x .taken) (x .piece .now) (x .window .now) (x .output .now) (start .pre) _ (c .before .before .before .before .walk .ensures) _ _ _ (c .before .before .walked .given .1)
+    place-message (x .gap) (x .taken) (x .piece .now) (x .window .now) (x .output .now) (start .pre) _ (c .before .before .before .before .walk .ensures) _ _ _ (c .before .before .at .given .1)
 
 copy-part-requires-2 : tie.Need-copy-part-requires-2
 copy-part-requires-2 c κs =
     let start = c .before .before .before .before .before .before .before .before .before .before .before .before .before in
     let x = start .args in
-    place-rest (x .gap) (x .taken) (x .piece .now) (x .window .now) (x .output .now) (start .pre) _ (c .before .before .before .before .before .before .before .before .walk .ensures) _ _ _ (c .before .before .before .before .before .before .walked .given .1)
+    place-rest (x .gap) (x .taken) (x .piece .now) (x .window .now) (x .output .now) (start .pre) _ (c .before .before .before .before .before .before .before .before .walk .ensures) _ _ _ (c .before .before .before .before .before .before .at .given .1)
 
 add-t22 : tie.Need-add-t22
 add-t22 c =
     let start = c .before .before .before .before .before .before .before .before .before .before .before .before .before .before .before .before in
     let x = start .args in
-    place-sums (x .gap) (x .taken) (x .piece .now) (x .window .now) (x .output .now) (start .pre) _ (c .before .before .before .before .before .before .before .before .before .before .before .walk .ensures) _ _ _ (c .before .before .before .before .before .before .before .before .before .walked .given .1) .0
+    place-sums (x .gap) (x .taken) (x .piece .now) (x .window .now) (x .output .now) (start .pre) _ (c .before .before .before .before .before .before .before .before .before .before .before .walk .ensures) _ _ _ (c .before .before .before .before .before .before .before .before .before .at .given .1) .0
 
 add-t23 : tie.Need-add-t23
 add-t23 c =
     let start = c .before .before .before .before .before .before .before .before .before .before .before .before .before .before .before .before in
     let x = start .args in
-    omega (arith, place-sums (x .gap) (x .taken) (x .piece .now) (x .window .now) (x .output .now) (start .pre) _ (c .before .before .before .before .before .before .before .before .before .before .before .walk .ensures) _ _ _ (c .before .before .before .before .before .before .before .before .before .walked .given .1) .1, place-end (x .gap) (x .taken) (x .piece .now) (x .window .now) (x .output .now) (start .pre) _ (c .before .before .before .before .before .before .before .before .before .before .before .walk .ensures) _ _ _ (c .before .before .before .before .before .before .before .before .before .walked .given .1))
+    omega (arith, place-sums (x .gap) (x .taken) (x .piece .now) (x .window .now) (x .output .now) (start .pre) _ (c .before .before .before .before .before .before .before .before .before .before .before .walk .ensures) _ _ _ (c .before .before .before .before .before .before .before .before .before .at .given .1) .1, place-end (x .gap) (x .taken) (x .piece .now) (x .window .now) (x .output .now) (start .pre) _ (c .before .before .before .before .before .before .before .before .before .before .before .walk .ensures) _ _ _ (c .before .before .before .before .before .before .before .before .before .at .given .1))
 
 sub-t24 : tie.Need-sub-t24
 sub-t24 c =
     let start = c .before .before .before .before .before .before .before .before .before .before .before .before .before .before .before .before in
     let x = start .args in
-    place-end (x .gap) (x .taken) (x .piece .now) (x .window .now) (x .output .now) (start .pre) _ (c .before .before .before .before .before .before .before .before .before .before .before .walk .ensures) _ _ _ (c .before .before .before .before .before .before .before .before .before .walked .given .1)
+    place-end (x .gap) (x .taken) (x .piece .now) (x .window .now) (x .output .now) (start .pre) _ (c .before .before .before .before .before .before .before .before .before .before .before .walk .ensures) _ _ _ (c .before .before .before .before .before .before .before .before .before .at .given .1)
 
-enum-known-walked-2 : tie.Need-enum-known-walked-2
-enum-known-walked-2 c = search needs
+enum-known-at-2 : tie.Need-enum-known-at-2
+enum-known-at-2 c = search needs
 
 copy-part-requires-3 : tie.Need-copy-part-requires-3
 copy-part-requires-3 c κs =
     let start = c .before .before .before .before .before .before .before .before .before in
     let x = start .args in
-    place-open (x .gap) (x .taken) (x .piece .now) (x .window .now) (x .output .now) (start .pre) _ (c .before .before .before .before .walk .ensures) _ (c .before .before .walked2 .given .1)
+    place-open (x .gap) (x .taken) (x .piece .now) (x .window .now) (x .output .now) (start .pre) _ (c .before .before .before .before .walk .ensures) _ (c .before .before .at2 .given .1)
 
 add-t26 : tie.Need-add-t26
 add-t26 c =
     let start = c .before .before .before .before .before .before .before .before .before .before .before .before in
     let x = start .args in
-    place-gap (x .gap) (x .taken) (x .piece .now) (x .window .now) (x .output .now) (start .pre) _ (c .before .before .before .before .before .before .before .walk .ensures) _ (c .before .before .before .before .before .walked2 .given .1)
+    place-gap (x .gap) (x .taken) (x .piece .now) (x .window .now) (x .output .now) (start .pre) _ (c .before .before .before .before .before .before .before .walk .ensures) _ (c .before .before .before .before .before .at2 .given .1)
 
 sub-t31 : tie.Need-sub-t31
 sub-t31 c =
     let start = c .before .before .before .before .before .before .before .before .before .before .before .before in
     let x = start .args in
-    place-open (x .gap) (x .taken) (x .piece .now) (x .window .now) (x .output .now) (start .pre) _ (c .before .before .before .before .before .before .before .walk .ensures) _ (c .before .before .before .before .before .walked2 .given .1) .0
+    place-open (x .gap) (x .taken) (x .piece .now) (x .window .now) (x .output .now) (start .pre) _ (c .before .before .before .before .before .before .before .walk .ensures) _ (c .before .before .before .before .before .at2 .given .1) .0
 
 same-length : tie.Need-same-length
 same-length c =
     let start = c .before .before .before .before .before .before .before .before .before .before .before .before .before .before .before .before in
     let x = start .args in
-    place-given (x .gap) (x .taken) (x .piece .now) (x .window .now) (x .output .now) (start .pre) _ (c .before .before .before .before .before .before .before .before .before .before .before .walk .ensures) _ _ _ (c .before .before .before .before .before .before .before .before .before .walked .given .1) _ _ (c .before .before .before .before .before .before .copy-part .ensures) (c .before .before .copy-part2 .ensures) .same
+    place-given (x .gap) (x .taken) (x .piece .now) (x .window .now) (x .output .now) (start .pre) _ (c .before .before .before .before .before .before .before .before .before .before .before .walk .ensures) _ _ _ (c .before .before .before .before .before .before .before .before .before .at .given .1) _ _ (c .before .before .before .before .before .before .copy-part .ensures) (c .before .before .copy-part2 .ensures) .same
 
 same-length-2 : tie.Need-same-length-2
 same-length-2 c = search needs
@@ -90,19 +90,19 @@ returns : tie.Need-returns
 returns c =
     let start = c .before .before .before .before .before .before .before .before .before .before .before .before .before .before .before .before in
     let x = start .args in
-    place-given (x .gap) (x .taken) (x .piece .now) (x .window .now) (x .output .now) (start .pre) _ (c .before .before .before .before .before .before .before .before .before .before .before .walk .ensures) _ _ _ (c .before .before .before .before .before .before .before .before .before .walked .given .1) _ _ (c .before .before .before .before .before .before .copy-part .ensures) (c .before .before .copy-part2 .ensures)
+    place-given (x .gap) (x .taken) (x .piece .now) (x .window .now) (x .output .now) (start .pre) _ (c .before .before .before .before .before .before .before .before .before .before .before .walk .ensures) _ _ _ (c .before .before .before .before .before .before .before .before .before .at .given .1) _ _ (c .before .before .before .before .before .before .copy-part .ensures) (c .before .before .copy-part2 .ensures)
 
 same-length-3 : tie.Need-same-length-3
 same-length-3 c =
     let start = c .before .before .before .before .before .before .before .before .before .before .before .before in
     let x = start .args in
-    place-more (x .gap) (x .taken) (x .piece .now) (x .window .now) (x .output .now) (start .pre) _ (c .before .before .before .before .before .before .before .walk .ensures) _ (c .before .before .before .before .before .walked2 .given .1) _ (c .before .before .copy-part3 .ensures) .3
+    place-more (x .gap) (x .taken) (x .piece .now) (x .window .now) (x .output .now) (start .pre) _ (c .before .before .before .before .before .before .before .walk .ensures) _ (c .before .before .before .before .before .at2 .given .1) _ (c .before .before .copy-part3 .ensures) .3
 
 returns-2 : tie.Need-returns-2
 returns-2 c =
     let start = c .before .before .before .before .before .before .before .before .before .before .before .before in
     let x = start .args in
-    place-more (x .gap) (x .taken) (x .piece .now) (x .window .now) (x .output .now) (start .pre) _ (c .before .before .before .before .before .before .before .walk .ensures) _ (c .before .before .before .before .before .walked2 .given .1) _ (c .before .before .copy-part3 .ensures)
+    place-more (x .gap) (x .taken) (x .piece .now) (x .window .now) (x .output .now) (start .pre) _ (c .before .before .before .before .before .before .before .walk .ensures) _ (c .before .before .before .before .before .at2 .given .1) _ (c .before .before .copy-part3 .ensures)
 
 pub in-place-spec : {M : Type 1} → statement M
 in-place-spec =
@@ -112,14 +112,14 @@ in-place-spec =
     part-rest-start
     part-rest-end
     walk-requires
-    enum-known-walked
+    enum-known-at
     add-end
     copy-part-requires
     copy-part-requires-2
     add-t22
     add-t23
     sub-t24
-    enum-known-walked-2
+    enum-known-at-2
     copy-part-requires-3
     add-t26
     sub-t31
