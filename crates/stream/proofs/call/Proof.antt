@@ -44,15 +44,7 @@ sub-clear c =
     omega (arith, h, a .held, a .window)
 
 part-clear-start : tie.Need-part-clear-start
-part-clear-start c =
-    let start = c .before .before .before .before .before .before .before .before .before .before .before .before .before .before in
-    let x = start .args in
-    let divided = c .before .before .before .before .before .divide in
-    let reply = c .reply-of in
-    let opened = sym (c .before .before .before .before .before .before .before .before .before .before .checks .ensures) ∙ c .before .before .before .before .before .before .before .before .enum-told .given .1 in
-    let a = feed-allowed _ _ _ _ opened in
-    let h : reply .result .state .held ≤ length (divided .last .1 .1 .1 .1 .0) = rw (reply .ensures) (came-fits (x .ended) (x .state .total) _ (x .piece .now) (x .window .now) (x .output .now) (divided .result) (divided .last .1 .1 .1 .1 .0) (divided .last .1 .1 .1 .1 .1 .0) (a .fits) (divided .ensures) .1) in
-    omega (arith, h, a .held, a .window)
+part-clear-start c = sub-clear c
 
 part-clear-end : tie.Need-part-clear-end
 part-clear-end c = search needs
@@ -79,9 +71,7 @@ returns-2 c =
     let divided = c .before .before .before .before .before .before .before .before .before .divide in
     let reply = c .before .before .before .before .reply-of in
     let opened = sym (c .before .before .before .before .before .before .before .before .before .before .before .before .before .before .checks .ensures) ∙ c .before .before .before .before .before .before .before .before .before .before .before .before .enum-told .given .1 in
-    let a = feed-allowed _ _ _ _ opened in
-    let h : reply .result .state .held ≤ length (divided .last .1 .1 .1 .1 .0) = rw (reply .ensures) (came-fits (x .ended) (x .state .total) _ (x .piece .now) (x .window .now) (x .output .now) (divided .result) (divided .last .1 .1 .1 .1 .0) (divided .last .1 .1 .1 .1 .1 .0) (a .fits) (divided .ensures) .1) in
-    call-goes (x .ended) (x .state) (x .piece .now) (x .window .now) (x .output .now) (divided .result) (divided .last .1 .1 .1 .1 .0) (divided .last .1 .1 .1 .1 .1 .0) _ _ _ opened (start .pre) (divided .ensures) (reply .ensures) (cleared (divided .last .1 .1 .1 .1 .0) (c .before .before .clear .last .0) (reply .result .state .held) h (c .before .before .clear .ensures))
+    call-goes (x .ended) (x .state) (x .piece .now) (x .window .now) (x .output .now) (divided .result) (divided .last .1 .1 .1 .1 .0) (divided .last .1 .1 .1 .1 .1 .0) _ _ _ opened (start .pre) (divided .ensures) (reply .ensures) (cleared (divided .last .1 .1 .1 .1 .0) (c .before .before .clear .last .0) (reply .result .state .held) (sub-clear (c .before .before .before .before)) (c .before .before .clear .ensures))
 
 pub call-spec : {M : Type 1} → statement M
 call-spec =
