@@ -2,7 +2,7 @@
 use Prim.Native.Nat.{ℕ, _+_, _-_, _^_, _≤_, _<_}
 use mathlib.Core.Path.{_≡_, refl, sym, ap, _∙_}
 use mathlib.Core.Bool.{Bool, true, false, cond}
-use mathlib.Core.List.{List, [], _∷_, _++_}
+use mathlib.Core.List.{List, [], _++_}
 use native.Mathlib.Nat.{add-zero}
 use native.Mathlib.Omega.{arith}
 use lib.ListN.{length, take, drop, replicate, length-drop}
@@ -21,7 +21,7 @@ use Rattle.stream.specs.declared.Outcome.the-variants.{Message, Nothing}
 use Rattle.stream.specs.Scan.{scan}
 use Rattle.stream.specs.Feed.{Fed, fed, feed, finish}
 use Rattle.stream.specs.Reader.{room, limit, bad, laid, checked, feedCheckedBy, feedChecked, Leaves, fedCall, feedCall, finishedCall, finishCall}
-use Rattle.stream.specs.Steps.{Allowed, Given, CameTo, replyTo, callBy}
+use Rattle.stream.specs.Steps.{Allowed, Given, CameTo, replyTo}
 use Rattle.stream.proofs.WindowSteps.{laid-take}
 
 -- ---- a bad state
@@ -108,19 +108,18 @@ pub allowed-fits : (s : State) (w o p : ℕ) → Allowed s w o p → (s .held �
 allowed-fits s w o p a = (a .held, a .window, a .output, omega (arith, a .sums, a .fits))
 
 -- a finish is checked as a feed of nothing before the end
-pub finish-checked : (s : State) (w o : ℕ) → feedChecked (record { held = s .held; gap = s .gap; total = s .total; ended = 0 }) w o 0 ≡ checked s w o
+abbrev pub unended : State → State
+unended s = record { held = s .held; gap = s .gap; total = s .total; ended = 0 }
+
+finish-checked : (s : State) (w o : ℕ) → feedChecked (unended s) w o 0 ≡ checked s w o
 unfolding feedChecked feedCheckedBy checked
 finish-checked s w o = go (checked s w o) refl
   where
-    go : (g : Gate) → checked s w o ≡ g → feedCheckedBy g (record { held = s .held; gap = s .gap; total = s .total; ended = 0 }) 0 ≡ g
+    go : (g : Gate) → checked s w o ≡ g → feedCheckedBy g (unended s) 0 ≡ g
     go (Shut r) e = refl
     go Open e = rw (le-ltb limit (s .total + 0) (checked-open s w o e .fits))
 
--- ---- what a call leaves: a refusal, or what it comes to
-pub call-refused : (e : Bool) (s : State) (p w o : List ℕ) (g : Gate) (r : Refusal) → g ≡ Shut r → Leaves (callBy e g s p w o) (record { answer = Refused r; state = s }) w o
-call-refused true s p w o g r z = rw z (record { reply = refl; window = refl; output = refl })
-call-refused false s p w o g r z = rw z (record { reply = refl; window = refl; output = refl })
-
+-- ---- what a call leaves
 -- the reply fits, and so do the bytes held
 pub came-fits : (e : Bool) (total : ℕ) (d : Fed) (p w o : List ℕ) (x : Outcome) (w₁ o₁ : List ℕ) → total + length p ≤ limit → CameTo d p w o x w₁ o₁
     → (replyTo total e x .state .total < 2 ^ 64) × (replyTo total e x .state .held ≤ length w₁)
@@ -165,25 +164,25 @@ module _ (s : State) (p w o : List ℕ) (d : Fed) (w₁ w₂ o₁ : List ℕ) (r
         let y : t ≡ 0 = c .1 ∙ n in
         rw (c .0) (record { reply = q ∙ rw (y, add-zero (s .total)) (sym (rw kept-on)); window = clean-on z; output = c .4 })
 
-pub call-goes : (e : Bool) (s : State) (p w o : List ℕ) (x : Outcome) (w₁ o₁ w₂ : List ℕ) (r : Reply) (g : Gate) → g ≡ Open → (e ≡ true → length p ≡ 0)
-    → CameTo (fed p (scan e (take (s .held) w) (s .gap))) p w o x w₁ o₁ → r ≡ replyTo (s .total) e x → w₂ ≡ take (r .state .held) w₁ ++ replicate (length w₁ - r .state .held) 0
-    → Leaves (callBy e g s p w o) r w₂ o₁
-unfolding feed finish
-call-goes false s p w o (Message n a t h) w₁ o₁ w₂ r g z y c q v = rw z (fed-message s p w o _ w₁ w₂ o₁ r v n a t h c q)
-call-goes false s p w o (Nothing a t h) w₁ o₁ w₂ r g z y c q v = rw z (fed-nothing s p w o _ w₁ w₂ o₁ r v a t h c q)
-call-goes true s (b ∷ p) w o x w₁ o₁ w₂ r g z y c q v = absurd (let n : length (b ∷ p) ≡ 0 = y refl in omega arith)
-call-goes true s [] w o (Message n a t h) w₁ o₁ w₂ r g z y c q v = rw z (finished-message s [] w o _ w₁ w₂ o₁ r v n a t h c refl q)
-call-goes true s [] w o (Nothing a t h) w₁ o₁ w₂ r g z y c q v = rw z (finished-nothing s [] w o _ w₁ w₂ o₁ r v a t h c refl q)
+-- ---- the calls
+module _ (s : State) (p w o : List ℕ) where
+  pub feed-refused : (r : Refusal) (a : Reply) → feedChecked s (length w) (length o) (length p) ≡ Shut r → a ≡ record { answer = Refused r; state = s } → Leaves (feedCall s p w o) a w o
+  unfolding feedCall
+  feed-refused r a z q = rw z (record { reply = q; window = refl; output = refl })
 
--- ---- as the public calls have it
-pub fed-leaves : (s : State) (p w o : List ℕ) (r : Reply) (w′ o′ : List ℕ) → Leaves (callBy false (feedChecked s (length w) (length o) (length p)) s p w o) r w′ o′ → Leaves (feedCall s p w o) r w′ o′
-unfolding feedCall
-fed-leaves s p w o r w′ o′ h = h
+  pub feed-goes : (x : Outcome) (w₁ o₁ w₂ : List ℕ) (r : Reply) → feedChecked s (length w) (length o) (length p) ≡ Open → CameTo (fed p (scan false (take (s .held) w) (s .gap))) p w o x w₁ o₁
+      → r ≡ replyTo (s .total) false x → w₂ ≡ take (r .state .held) w₁ ++ replicate (length w₁ - r .state .held) 0 → Leaves (feedCall s p w o) r w₂ o₁
+  unfolding feedCall feed
+  feed-goes (Message n g t h) w₁ o₁ w₂ r z c q v = rw z (fed-message s p w o _ w₁ w₂ o₁ r v n g t h c q)
+  feed-goes (Nothing g t h) w₁ o₁ w₂ r z c q v = rw z (fed-nothing s p w o _ w₁ w₂ o₁ r v g t h c q)
 
-pub finished-leaves : (s : State) (w o : List ℕ) (r : Reply) (w′ o′ : List ℕ)
-    → Leaves (callBy true (feedChecked (record { held = s .held; gap = s .gap; total = s .total; ended = 0 }) (length w) (length o) 0) s [] w o) r w′ o′ → Leaves (finishCall s w o) r w′ o′
-unfolding finishCall
-finished-leaves s w o r w′ o′ h = rw (finish-checked s (length w) (length o)) at h
+module _ (s : State) (w o : List ℕ) where
+  pub finish-refused : (r : Refusal) (a : Reply) → feedChecked (unended s) (length w) (length o) 0 ≡ Shut r → a ≡ record { answer = Refused r; state = s } → Leaves (finishCall s w o) a w o
+  unfolding finishCall
+  finish-refused r a z q = rw (sym (finish-checked s (length w) (length o)) ∙ z) (record { reply = q; window = refl; output = refl })
 
-pub feeds-on : (P : Type 0) → false ≡ true → P
-feeds-on P z = absurd (let y : _≡_ {A = ℕ} 0 1 = cc in omega arith)
+  pub finish-goes : (x : Outcome) (w₁ o₁ w₂ : List ℕ) (r : Reply) → feedChecked (unended s) (length w) (length o) 0 ≡ Open → CameTo (fed [] (scan true (take (s .held) w) (s .gap))) [] w o x w₁ o₁
+      → r ≡ replyTo (s .total) true x → w₂ ≡ take (r .state .held) w₁ ++ replicate (length w₁ - r .state .held) 0 → Leaves (finishCall s w o) r w₂ o₁
+  unfolding finishCall finish
+  finish-goes (Message n g t h) w₁ o₁ w₂ r z c q v = rw (sym (finish-checked s (length w) (length o)) ∙ z) (finished-message s [] w o _ w₁ w₂ o₁ r v n g t h c refl q)
+  finish-goes (Nothing g t h) w₁ o₁ w₂ r z c q v = rw (sym (finish-checked s (length w) (length o)) ∙ z) (finished-nothing s [] w o _ w₁ w₂ o₁ r v g t h c refl q)

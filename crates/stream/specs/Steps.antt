@@ -1,7 +1,7 @@
 -- What the private steps of the reader say of each other: no public contract cites these. Definitions only.
 use Prim.Native.Nat.{ℕ, _+_, _≤_}
 use mathlib.Core.Path.{_≡_}
-use mathlib.Core.Bool.{Bool, true, false, cond}
+use mathlib.Core.Bool.{Bool, cond}
 use mathlib.Core.List.{List, _++_}
 use lib.ListN.{length, take, drop}
 use mir.Val.{boolByte}
@@ -11,11 +11,10 @@ use Rattle.stream.specs.declared.State.{State}
 use Rattle.stream.specs.declared.Answer.{Answer}
 use Rattle.stream.specs.declared.Answer.the-variants.{NeedsMore, Message as Answered, End}
 use Rattle.stream.specs.declared.Reply.{Reply}
-use Rattle.stream.specs.declared.Gate.{Gate}
 use Rattle.stream.specs.declared.Outcome.{Outcome}
 use Rattle.stream.specs.declared.Outcome.the-variants.{Message, Nothing}
 use Rattle.stream.specs.Feed.{Fed, given, more}
-use Rattle.stream.specs.Reader.{room, limit, Call, feedBy, finishBy}
+use Rattle.stream.specs.Reader.{room, limit}
 
 -- what the checks let through
 pub record Allowed (s : State) (w o p : ℕ) : Type 0 where
@@ -54,7 +53,3 @@ noMessage ended g = cond ended (End g) NeedsMore
 abbrev pub replyTo : ℕ → Bool → Outcome → Reply
 replyTo total ended (Message n g t h) = record { answer = Answered n g t; state = record { held = h; gap = 0; total = total + t; ended = boolByte ended } }
 replyTo total ended (Nothing g t h) = record { answer = noMessage ended g; state = record { held = h; gap = g; total = total + t; ended = boolByte ended } }
-
-abbrev pub callBy : Bool → Gate → State → List ℕ → List ℕ → List ℕ → Call
-callBy true gate s p w o = finishBy gate s w o
-callBy false gate s p w o = feedBy gate s p w o

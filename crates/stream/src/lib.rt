@@ -4,10 +4,9 @@ use division::Walked;
 use front::Claim;
 use refusal::Refusal;
 ghost use mathlib.Core.Path.{_≡_};
-ghost use mathlib.Core.Bool.{true};
-ghost use mathlib.Core.List.{[]};
+ghost use mathlib.Core.List.{[], _++_};
 ghost use Prim.Native.Nat.{_+_, _-_, _^_, _<_, _≤_};
-ghost use lib.ListN.{length, take, drop};
+ghost use lib.ListN.{length, take, drop, replicate};
 ghost use lib.Seq.{paste};
 ghost use mir.Val.{boolByte};
 ghost use Rattle.octets.specs.Parts.{over};
@@ -15,7 +14,7 @@ ghost use Rattle.front.specs.Look.{need};
 ghost use Rattle.stream.specs.Scan.{scan};
 ghost use Rattle.stream.specs.Feed.{fed, feed};
 ghost use Rattle.stream.specs.Reader.{freshState, bad, feedChecked, feedCall, finishCall, Leaves};
-ghost use Rattle.stream.specs.Steps.{Pulled, CameTo, noMessage, replyTo, callBy};
+ghost use Rattle.stream.specs.Steps.{Pulled, CameTo, noMessage, replyTo};
 
 // The bytes held in the window, the gap bytes before them, all bytes taken, and whether the end was announced (0, or anything else).
 #[repr(C)]
@@ -256,36 +255,25 @@ fn reply_of(total: usize, ended: bool, outcome: Outcome) -> Reply
     }
 }
 
+// The reply, and zeros behind the bytes held.
+fn conclude(total: usize, ended: bool, outcome: Outcome, window: &mut [u8]) -> Reply
+    requires { ⌜ (replyTo total ended outcome .state .total < 2 ^ 64) × (replyTo total ended outcome .state .held ≤ length (now window)) ⌝ }
+    ensures { λ r. ⌜ (r ≡ replyTo total ended outcome) × (now (window .exit) ≡ take (r .state .held) (now (window .entry)) ++ replicate (length (now (window .entry)) - r .state .held) 0) ⌝ }
+{
+    let reply = reply_of(total, ended, outcome);
+    let left = reply.state.held as usize;
+    octets::clear(&mut window[left..]);
+    reply
+}
+
 // ---- the calls
 
-// A feed; or, with `ended`, a finish: of no bytes, and as if no end had been announced.
-fn call(
-    ended: bool,
-    announced: u64,
-    state: State,
-    piece: &[u8],
-    window: &mut [u8],
-    output: &mut [u8],
-) -> Reply
-    requires { ⌜ (ended ≡ true → length (now piece) ≡ 0) ⌝ }
-    ensures { λ r. ⌜ Leaves (callBy ended (feedChecked (record { held = state .held; gap = state .gap; total = state .total; ended = announced }) (length (now (window .entry))) (length (now (output .entry))) (length (now (piece .entry)))) state (now (piece .entry)) (now (window .entry)) (now (output .entry))) r (now (window .exit)) (now (output .exit)) ⌝ }
+fn refused(state: State, refusal: Refusal) -> Reply
+    ensures { λ r. ⌜ r ≡ record { answer = Answer.Refused refusal; state = state } ⌝ }
 {
-    let held = state.held as usize;
-    let gap = state.gap as usize;
-    let total = state.total as usize;
-    match checks(state, announced, window.len(), output.len(), piece.len()) {
-        Gate::Refused(refusal) => Reply {
-            answer: Answer::Refused(refusal),
-            state,
-        },
-        Gate::Open => {
-            let outcome = divide(ended, held, gap, piece, window, output);
-            let reply = reply_of(total, ended, outcome);
-            let left = reply.state.held as usize;
-            // Zeros stand behind the bytes held.
-            octets::clear(&mut window[left..]);
-            reply
-        }
+    Reply {
+        answer: Answer::Refused(refusal),
+        state,
     }
 }
 
@@ -293,14 +281,30 @@ fn call(
 pub fn feed(state: State, piece: &[u8], window: &mut [u8], output: &mut [u8]) -> Reply
     ensures { λ r. ⌜ Leaves (feedCall state (now (piece .entry)) (now (window .entry)) (now (output .entry))) r (now (window .exit)) (now (output .exit)) ⌝ }
 {
-    call(false, state.ended, state, piece, window, output)
+    match checks(state, state.ended, window.len(), output.len(), piece.len()) {
+        Gate::Refused(refusal) => refused(state, refusal),
+        Gate::Open => {
+            let held = state.held as usize;
+            let gap = state.gap as usize;
+            let outcome = divide(false, held, gap, piece, window, output);
+            conclude(state.total as usize, false, outcome, window)
+        }
+    }
 }
 
 // The end of the stream: the remaining messages one a call, then the end, the same each time after (8, 9).
 pub fn finish(state: State, window: &mut [u8], output: &mut [u8]) -> Reply
     ensures { λ r. ⌜ Leaves (finishCall state (now (window .entry)) (now (output .entry))) r (now (window .exit)) (now (output .exit)) ⌝ }
 {
-    call(true, 0, state, b"", window, output)
+    match checks(state, 0, window.len(), output.len(), 0) {
+        Gate::Refused(refusal) => refused(state, refusal),
+        Gate::Open => {
+            let held = state.held as usize;
+            let gap = state.gap as usize;
+            let outcome = divide(true, held, gap, b"", window, output);
+            conclude(state.total as usize, true, outcome, window)
+        }
+    }
 }
 
 // The state before the first byte.

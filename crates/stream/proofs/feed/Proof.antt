@@ -1,11 +1,40 @@
 -- `stream::feed` meets its contract. Assumes nothing.
-use Rattle.stream.proofs.CallSteps.{feeds-on, fed-leaves}
+use mathlib.Core.Bool.{false}
+use mathlib.Core.Path.{sym, _∙_}
+use Rattle.stream.proofs.CallSteps.{feed-allowed, allowed-fits, came-fits, feed-refused, feed-goes}
 use borrow.Author.Needs.{needs}
 use Rattle.stream.proofs.feed.Statement.{statement}
 use Rattle.stream.proofs.feed.Tie as tie
 
-call-requires : tie.Need-call-requires
-call-requires c κs = feeds-on _
+checks-requires : tie.Need-checks-requires
+checks-requires c κs = search needs
+
+enum-known-refusal : tie.Need-enum-known-refusal
+enum-known-refusal c = search needs
+
+refused-requires : tie.Need-refused-requires
+refused-requires c κs = search needs
+
+enum-told : tie.Need-enum-told
+enum-told c = search needs
+
+divide-requires : tie.Need-divide-requires
+divide-requires c κs =
+    let opened = c .before .before in
+    allowed-fits _ _ _ _ (feed-allowed _ _ _ _ (sym (opened .before .before .checks .ensures) ∙ opened .enum-told .given .1))
+
+conclude-requires : tie.Need-conclude-requires
+conclude-requires c κs =
+    let divided = c .before .before .before .before .before in
+    let opened = c .before .before .before .before .before .before .before .before in
+    let x = c .before .before .before .before .before .before .before .before .before .before .before .before .before .before .args in
+    let a = feed-allowed _ _ _ _ (sym (opened .before .before .checks .ensures) ∙ opened .enum-told .given .1) in
+    came-fits false (x .state .total) _ (x .piece .now) (x .window .now) (x .output .now) (divided .divide .result) _ _ (a .fits) (divided .divide .ensures)
+
+returns : tie.Need-returns
+returns c =
+    let x = c .before .before .before .before .before .before .before .before .args in
+    feed-refused (x .state) (x .piece .now) (x .window .now) (x .output .now) _ _ (sym (c .before .before .before .before .checks .ensures) ∙ c .before .before .refusal .given .1) (c .refused .ensures)
 
 same-length : tie.Need-same-length
 same-length c = search needs
@@ -13,11 +42,26 @@ same-length c = search needs
 same-length-2 : tie.Need-same-length-2
 same-length-2 c = search needs
 
-returns : tie.Need-returns
-returns c =
-    let start = c .before .before .before .before .before .before .before .before .before .before in
-    let x = start .args in
-    fed-leaves (x .state) (x .piece .now) (x .window .now) (x .output .now) _ _ _ (c .before .before .before .before .call .ensures)
+returns-2 : tie.Need-returns-2
+returns-2 c =
+    let concluded = c .before .before in
+    let divided = c .before .before .before .before .before .before .before .before in
+    let opened = c .before .before .before .before .before .before .before .before .before .before .before in
+    let x = c .before .before .before .before .before .before .before .before .before .before .before .before .before .before .before .before .before .args in
+    feed-goes (x .state) (x .piece .now) (x .window .now) (x .output .now) (divided .divide .result) _ _ _ _ (sym (opened .before .before .checks .ensures) ∙ opened .enum-told .given .1)
+    (divided .divide .ensures) (concluded .conclude .ensures .0) (concluded .conclude .ensures .1)
 
 pub feed-spec : {M : Type 1} → statement M
-feed-spec = tie.close (tie.spec call-requires same-length same-length-2 returns)
+feed-spec =
+    tie.close
+    (tie.spec
+    checks-requires
+    enum-known-refusal
+    refused-requires
+    enum-told
+    divide-requires
+    conclude-requires
+    returns
+    same-length
+    same-length-2
+    returns-2)
