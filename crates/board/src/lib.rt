@@ -54,8 +54,7 @@ pub extern "C" fn cs_set(message: &mut [u8], index: usize, observation: Observat
     ensures { λ r. ⌜ (r ≡ writtenNumber (setOf (now (message .entry)) index)) × (now (message .exit) ≡ setBytes (now (message .entry)) index (observationIn observation)) ⌝ }
 {
     let written = compose::set(message, index, words::observation_in(observation));
-    let answer = words::written_words(written);
-    answer.refusal
+    words::written_words(written).refusal
 }
 
 #[no_mangle]

@@ -92,12 +92,11 @@ pub fn plot_row(pseudorange: u32, rate: i32) -> PlotRow
 pub fn phase_of(form: Form, observation: Observation) -> Phase
     ensures { λ r. ⌜ (r ≡ phaseOf form observation) × PhaseShows r (observation .phase) ⌝ }
 {
-    let condition = observation.condition;
     let bits = observation.phase;
     if let Form::Old { version: _ } = form {
         return Phase::Withheld;
     }
-    if condition / 4 % 2 == 0 {
+    if observation.condition / 4 % 2 == 0 {
         return Phase::Withheld;
     }
     if bits / 0x10_0000_0000_0000 % 0x800 == 0x7FF {

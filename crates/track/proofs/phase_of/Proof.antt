@@ -20,21 +20,21 @@ enum-told-2 c = search needs
 
 returns-2 : tie.Need-returns-2
 returns-2 c =
-    let o = c .before .before .before .args .observation in
-    (rw (c .before .enum-told2 .given .1, ne-eqb (o .condition / 4 % 2) 1 (λ e. omega arith)), tt)
+    let o = c .before .before .before .before .args .observation in
+    (rw (c .before .before .enum-told2 .given .1, ne-eqb (o .condition / 4 % 2) 1 (λ e. omega arith)), tt)
 
 returns-3 : tie.Need-returns-3
 returns-3 c =
-    let o = c .before .before .before .before .args .observation in
-    (rw (c .before .before .enum-told2 .given .1, eq-eqb (o .condition / 4 % 2) 1 (omega arith), eq-eqb (exponent binary64 (o .phase)) 0x7FF (c .if2 .taken)), tt)
+    let o = c .before .before .before .before .before .args .observation in
+    (rw (c .before .before .before .enum-told2 .given .1, eq-eqb (o .condition / 4 % 2) 1 (omega arith), eq-eqb (exponent binary64 (o .phase)) 0x7FF (c .if2 .taken)), tt)
 
 float-from-bits-cycles : tie.Need-float-from-bits-cycles
 float-from-bits-cycles c = no-nan binary64 _ (c .if2 .left)
 
 returns-4 : tie.Need-returns-4
 returns-4 c =
-    let o = c .before .before .before .before .args .observation in
-    (rw (c .before .before .enum-told2 .given .1, eq-eqb (o .condition / 4 % 2) 1 (omega arith), ne-eqb (exponent binary64 (o .phase)) 0x7FF (c .if2 .left)), has-bits binary64 (o .phase) (c .if2 .left) (omega arith))
+    let o = c .before .before .before .before .before .args .observation in
+    (rw (c .before .before .before .enum-told2 .given .1, eq-eqb (o .condition / 4 % 2) 1 (omega arith), ne-eqb (exponent binary64 (o .phase)) 0x7FF (c .if2 .left)), has-bits binary64 (o .phase) (c .if2 .left) (omega arith))
 
 pub phase-of-spec : {M : Type 1} → statement M
 phase-of-spec =
