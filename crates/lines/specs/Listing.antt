@@ -2,6 +2,7 @@
 use Prim.Native.Nat.{ℕ}
 use mathlib.Core.List.{List, [], _∷_, _++_}
 use lib.ListN.{length}
+use Rattle.text.specs.Word.{word}
 use Rattle.text.specs.Digits.{decimal}
 use Rattle.macm.specs.Read.{readOf}
 use Rattle.macm.specs.declared.Form.{Form}
@@ -21,12 +22,11 @@ abbrev pub numberText : ℕ → ℕ → List ℕ
 numberText n behind = decimal n ++ (behind ∷ [])
 
 abbrev pub countText : List ℕ → ℕ → ℕ → List ℕ
-countText word n behind = word ++ numberText n behind
+countText before n behind = before ++ numberText n behind
 
--- "v2 " or "v1 "
 abbrev pub formText : Form → List ℕ
-formText (New signal tfom) = 118 ∷ 50 ∷ space ∷ []
-formText (Old version) = 118 ∷ 49 ∷ space ∷ []
+formText (New signal tfom) = word "v2 "
+formText (Old version) = word "v1 "
 
 -- position, bytes, form, observations, time
 abbrev pub messageText : ℕ → ℕ → Header → ℕ → List ℕ
@@ -41,6 +41,6 @@ readText position bytes (Observed h count o) = messageText position bytes h coun
 abbrev pub lineText : ℕ → List ℕ → List ℕ
 lineText position m = readText position (length m) (readOf m 0)
 
--- "end ", all bytes, "messages ", all messages, "gap ", all gap bytes
+-- all bytes, all messages, all gap bytes
 abbrev pub endText : ℕ → ℕ → ℕ → List ℕ
-endText bytes messages gap = countText (101 ∷ 110 ∷ 100 ∷ space ∷ []) bytes space ++ (countText (109 ∷ 101 ∷ 115 ∷ 115 ∷ 97 ∷ 103 ∷ 101 ∷ 115 ∷ space ∷ []) messages space ++ countText (103 ∷ 97 ∷ 112 ∷ space ∷ []) gap newline)
+endText bytes messages gap = countText (word "end ") bytes space ++ (countText (word "messages ") messages space ++ countText (word "gap ") gap newline)

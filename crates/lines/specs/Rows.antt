@@ -1,6 +1,7 @@
 -- The rows for the people who compute the track: one an observation. Definitions only.
 use Prim.Native.Nat.{ℕ, zero, suc}
 use mathlib.Core.List.{List, [], _∷_, _++_}
+use Rattle.text.specs.Word.{word}
 use Rattle.text.specs.Digits.{digits, metres, hertz}
 use Rattle.text.specs.Double.{nonfinite, cycles}
 use Rattle.units.specs.Units.{lockMillis, millisIn}
@@ -23,10 +24,10 @@ use Rattle.track.specs.Condition.{conditionOf}
 use Rattle.track.specs.Shown.{phaseOf}
 use Rattle.lines.specs.Listing.{space, newline, numberText, countText, formText}
 
--- the form, and TYPE or "- "
+-- the form, and TYPE, which the old form does not have
 abbrev pub signalText : Form → List ℕ
 signalText (New signal tfom) = formText (New signal tfom) ++ numberText signal space
-signalText (Old version) = formText (Old version) ++ (45 ∷ space ∷ [])
+signalText (Old version) = formText (Old version) ++ word "- "
 
 -- position of the message, time, form, TYPE
 abbrev pub headText : ℕ → Header → List ℕ
@@ -36,23 +37,23 @@ headText position h = numberText position space ++ (numberText (h .time) space +
 abbrev pub rangeText : Observation → List ℕ
 rangeText o = numberText (o .sid) space ++ (numberText (o .cn0) space ++ (digits 16 4 (o .condition) ++ ((space ∷ []) ++ (metres (rangeOf (o .pseudorange)) ++ (space ∷ [])))))
 
--- "withheld", or the double by its bits
+-- a double that may be shown is shown by its bits
 abbrev pub phaseText : Phase → ℕ → List ℕ
-phaseText Withheld bits = 119 ∷ 105 ∷ 116 ∷ 104 ∷ 104 ∷ 101 ∷ 108 ∷ 100 ∷ []
+phaseText Withheld bits = word "withheld"
 phaseText NotFinite bits = nonfinite
 phaseText (Cycles double) bits = cycles bits
 
--- "unknown ", "uncorrected ", "half " a cycle is needed, "undefined" with the code
+-- half a cycle is needed; an undefined code stands behind its word
 abbrev pub polarityText : Polarity → List ℕ
-polarityText NotKnown = 117 ∷ 110 ∷ 107 ∷ 110 ∷ 111 ∷ 119 ∷ 110 ∷ space ∷ []
-polarityText NotCorrected = 117 ∷ 110 ∷ 99 ∷ 111 ∷ 114 ∷ 114 ∷ 101 ∷ 99 ∷ 116 ∷ 101 ∷ 100 ∷ space ∷ []
-polarityText NeedsHalfCycle = 104 ∷ 97 ∷ 108 ∷ 102 ∷ space ∷ []
-polarityText (Undefined code) = countText (117 ∷ 110 ∷ 100 ∷ 101 ∷ 102 ∷ 105 ∷ 110 ∷ 101 ∷ 100 ∷ []) code space
+polarityText NotKnown = word "unknown "
+polarityText NotCorrected = word "uncorrected "
+polarityText NeedsHalfCycle = word "half "
+polarityText (Undefined code) = countText (word "undefined") code space
 
--- "- " in the old form
+-- in the old form every bit is the maker's
 abbrev pub conditionText : Condition → List ℕ
 conditionText (Flagged flags) = polarityText (flags .polarity)
-conditionText (MakerDefined bits) = 45 ∷ space ∷ []
+conditionText (MakerDefined bits) = word "- "
 
 -- phase in cycles, PHASE's sixteen digits, polarity
 abbrev pub shownText : Form → Observation → List ℕ

@@ -1,8 +1,9 @@
 -- A double, by the bits of IEEE 754, with three decimals. Definitions only.
 use Prim.Native.Nat.{ℕ, _+_, _*_, _/_, _%_, _^_}
 use mathlib.Core.Bool.{cond}
-use mathlib.Core.List.{List, [], _∷_}
+use mathlib.Core.List.{List}
 use lib.Dec.{ltb, leb, eqb}
+use Rattle.text.specs.Word.{word}
 use Rattle.text.specs.Digits.{fixed}
 
 -- the eleven bits under the sign, and the 52 under them
@@ -26,10 +27,10 @@ thousandths bits = nearest (sizeOf bits * 1000) (2 ^ 1075)
 
 -- the words for a double that is not finite, and for one of 2 ^ 53 or more, which does not tell one cycle from the next
 abbrev pub nonfinite : List ℕ
-nonfinite = 110 ∷ 111 ∷ 110 ∷ 102 ∷ 105 ∷ 110 ∷ 105 ∷ 116 ∷ 101 ∷ []
+nonfinite = word "nonfinite"
 
 abbrev pub wide : List ℕ
-wide = 119 ∷ 105 ∷ 100 ∷ 101 ∷ []
+wide = word "wide"
 
 -- a phase in cycles; halves are rounded away from zero, since the sign stands apart
 abbrev pub cycles : ℕ → List ℕ
