@@ -225,7 +225,7 @@ fn state_of(held: usize, gap: usize, total: usize, ended: bool) -> State
 }
 
 // The answer with no message: the end, or more is needed.
-fn none(ended: bool, gap: usize) -> Answer
+fn no_message(ended: bool, gap: usize) -> Answer
     ensures { λ r. ⌜ r ≡ noMessage ended gap ⌝ }
 {
     if ended {
@@ -249,7 +249,7 @@ fn reply_of(total: usize, ended: bool, outcome: Outcome) -> Reply
             state: state_of(held, 0, total + taken, ended),
         },
         Outcome::Nothing(gap, taken, held) => Reply {
-            answer: none(ended, gap),
+            answer: no_message(ended, gap),
             state: state_of(held, gap, total + taken, ended),
         },
     }

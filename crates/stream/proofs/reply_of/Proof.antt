@@ -18,8 +18,8 @@ state-of-requires c κs = search needs
 enum-known-outcome-2 : tie.Need-enum-known-outcome-2
 enum-known-outcome-2 c = search needs
 
-none-requires : tie.Need-none-requires
-none-requires c κs = search needs
+no-message-requires : tie.Need-no-message-requires
+no-message-requires c κs = search needs
 
 add-state-of-2 : tie.Need-add-state-of-2
 add-state-of-2 c =
@@ -33,7 +33,7 @@ returns : tie.Need-returns
 returns c = rw (c .before .before .outcome .given .1, c .state-of .ensures)
 
 returns-2 : tie.Need-returns-2
-returns-2 c = rw (c .before .before .before .outcome2 .given .1, c .before .none .ensures, c .state-of2 .ensures)
+returns-2 c = rw (c .before .before .before .outcome2 .given .1, c .before .no-message .ensures, c .state-of2 .ensures)
 
 pub reply-of-spec : {M : Type 1} → statement M
 reply-of-spec =
@@ -43,7 +43,7 @@ reply-of-spec =
     add-state-of
     state-of-requires
     enum-known-outcome-2
-    none-requires
+    no-message-requires
     add-state-of-2
     state-of-requires-2
     returns
