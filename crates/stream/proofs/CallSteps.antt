@@ -127,42 +127,37 @@ came-fits e total d p w o (Message n g t h) w₁ o₁ l c = (omega (arith, c .wi
 came-fits e total d p w o (Nothing g t h) w₁ o₁ l c = (omega arith, omega arith)
 
 module _ (s : State) (p w o : List ℕ) (d : Fed) (w₁ w₂ o₁ : List ℕ) (r : Reply) (v : w₂ ≡ take (r .state .held) w₁ ++ replicate (length w₁ - r .state .held) 0) where
-  module _ (n g t h : ℕ) (c : Given d p w o n g t h w₁ o₁) where
+  module _ (h : ℕ) (within : h ≤ length w) (same : length w₁ ≡ length w) where
     kept : length (take h w₁) ≡ h
-    kept = length-take-le h w₁ (omega (arith, c .held, c .same))
+    kept = length-take-le h w₁ (omega arith)
 
     clean : r .state .held ≡ h → w₂ ≡ laid (take h w₁) w
-    clean z = laid-take h w w₁ w₂ (omega (arith, c .held, c .same)) (c .same) (v ∙ rw z)
+    clean z = laid-take h w w₁ w₂ (omega arith) same (v ∙ rw z)
 
+  module _ (n g t h : ℕ) (c : Given d p w o n g t h w₁ o₁) where
     fed-message : r ≡ replyTo (s .total) false (Message n g t h) → Leaves (fedCall s w o p d) r w₂ o₁
     fed-message q =
         let z : r .state .held ≡ h = ap (λ y. y .state .held) q in
         let y : length p - length (drop t p) ≡ t = omega (arith, length-drop t p, c .within) in
-        rw (c .is) (record { reply = q ∙ sym (rw (c .size, kept, y)); window = clean z; output = c .output })
+        rw (c .is) (record { reply = q ∙ sym (rw (c .size, kept h (c .held) (c .same), y)); window = clean h (c .held) (c .same) z; output = c .output })
 
     finished-message : length p ≡ 0 → r ≡ replyTo (s .total) true (Message n g t h) → Leaves (finishedCall s w o d) r w₂ o₁
     finished-message n q =
         let z : r .state .held ≡ h = ap (λ y. y .state .held) q in
         let y : t ≡ 0 = omega (arith, c .within) in
-        rw (c .is) (record { reply = q ∙ rw (y, add-zero (s .total)) (sym (rw (c .size, kept))); window = clean z; output = c .output })
+        rw (c .is) (record { reply = q ∙ rw (y, add-zero (s .total)) (sym (rw (c .size, kept h (c .held) (c .same)))); window = clean h (c .held) (c .same) z; output = c .output })
 
   module _ (g t h : ℕ) (c : CameTo d p w o (Nothing g t h) w₁ o₁) where
-    kept-on : length (take h w₁) ≡ h
-    kept-on = length-take-le h w₁ (omega arith)
-
-    clean-on : r .state .held ≡ h → w₂ ≡ laid (take h w₁) w
-    clean-on z = laid-take h w w₁ w₂ (omega arith) (c .3) (v ∙ rw z)
-
     fed-nothing : r ≡ replyTo (s .total) false (Nothing g t h) → Leaves (fedCall s w o p d) r w₂ o₁
     fed-nothing q =
         let z : r .state .held ≡ h = ap (λ y. y .state .held) q in
-        rw (c .0) (record { reply = q ∙ sym (rw (kept-on, ← c .1)); window = clean-on z; output = c .4 })
+        rw (c .0) (record { reply = q ∙ sym (rw (kept h (c .2) (c .3), ← c .1)); window = clean h (c .2) (c .3) z; output = c .4 })
 
     finished-nothing : length p ≡ 0 → r ≡ replyTo (s .total) true (Nothing g t h) → Leaves (finishedCall s w o d) r w₂ o₁
     finished-nothing n q =
         let z : r .state .held ≡ h = ap (λ y. y .state .held) q in
         let y : t ≡ 0 = c .1 ∙ n in
-        rw (c .0) (record { reply = q ∙ rw (y, add-zero (s .total)) (sym (rw kept-on)); window = clean-on z; output = c .4 })
+        rw (c .0) (record { reply = q ∙ rw (y, add-zero (s .total)) (sym (rw (kept h (c .2) (c .3)))); window = clean h (c .2) (c .3) z; output = c .4 })
 
 -- ---- the calls
 module _ (s : State) (p w o : List ℕ) where
