@@ -49,7 +49,8 @@ fn keep(buffer: &mut [u8], from: usize, end: usize) -> usize {
     count
 }
 
-// Reads a block behind those that were kept: 0 bytes at the end of the input, and where reading fails, which is said.
+// Reads a block behind those that were kept: 0 bytes at the end of the input, and where reading fails, which is said. A line on standard error that
+// begins with `error: ` is a failure: `cablesound` turns it into the exit status that a program has not.
 fn read_behind(buffer: &mut [u8], kept: usize) -> usize {
     if buffer.len() < kept {
         return 0;
@@ -57,7 +58,7 @@ fn read_behind(buffer: &mut [u8], kept: usize) -> usize {
     let room = &mut buffer[kept..];
     let got = libc::read(libc::STDIN_FILENO, room);
     if got < 0 {
-        os::fail(b"standard input");
+        os::fail(b"error: standard input");
     }
     io::count(got, room)
 }
@@ -80,8 +81,18 @@ fn write_out(text: &[u8], waiting: usize) -> bool {
     if io::write_all(libc::STDOUT_FILENO, text::front(text, waiting)) {
         return true;
     }
-    os::fail(b"standard output");
+    os::fail(b"error: standard output");
     false
+}
+
+// Nothing waits any more; where it cannot be written there is no more to do.
+fn written(progress: Progress, text: &[u8]) -> Progress {
+    let going = write_out(text, progress.waiting);
+    Progress {
+        waiting: 0,
+        going,
+        ..progress
+    }
 }
 
 // A line for the message, or a row for each of its observations.
@@ -107,15 +118,17 @@ fn passed(progress: Progress, count: usize) -> Progress {
 // A message. What waits is written out where it is much, so that a message's text always has room behind it: of 255 rows none takes 250 bytes.
 fn given(progress: Progress, message: &[u8], text: &mut [u8]) -> Progress {
     let waiting = put_message(progress, message, text);
-    let much = waiting > 65536;
-    Progress {
+    let next = Progress {
         messages: wrapping_add_u64(progress.messages, 1),
         position: wrapping_add_u64(progress.position, message.len() as u64),
         from: wrapping_add_usize(progress.from, message.len()),
-        waiting: if much { 0 } else { waiting },
-        going: if much { write_out(text, waiting) } else { true },
+        waiting,
         ..progress
+    };
+    if waiting > 65536 {
+        return written(next, text);
     }
+    next
 }
 
 // The end: the last line of the listing, which rows have none of, and all that waits.
@@ -132,6 +145,15 @@ fn ended(progress: Progress, text: &mut [u8]) -> Progress {
     }
 }
 
+// The next block. What waits is written out before it, since a live line may keep a read waiting for as long as it likes.
+fn more(progress: Progress, buffer: &mut [u8], text: &[u8]) -> Progress {
+    let next = written(progress, text);
+    if next.going {
+        return read_on(next, buffer);
+    }
+    next
+}
+
 // The next message of the buffer; or what is not settled yet, and the next block behind it; or the end.
 fn turn(progress: Progress, buffer: &mut [u8], text: &mut [u8]) -> Progress {
     let rest = part(buffer, progress.from, progress.end);
@@ -144,7 +166,7 @@ fn turn(progress: Progress, buffer: &mut [u8], text: &mut [u8]) -> Progress {
             if progress.over {
                 return ended(passed(progress, at), text);
             }
-            read_on(passed(progress, at), buffer)
+            more(passed(progress, at), buffer, text)
         }
     }
 }
