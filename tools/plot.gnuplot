@@ -1,17 +1,60 @@
-# Range and rate of each satellite over time: gnuplot -c plot.gnuplot POINTS PICTURE SATELLITES. POINTS has TYPE/SID, seconds, kilometres and hertz on
-# each line, SATELLITES the TYPE/SID of all.
-points = ARG1
-picture = ARG2
-satellites = ARG3
-set terminal pngcairo size 1200, 900
-set output picture
-set multiplot layout 2, 1
-set key outside right top title 'TYPE/SID'
+# Range, rate and C/N0 of each satellite and the gap bytes before each message, over time: gnuplot -c plot.gnuplot FOLDER NAME.
+# FOLDER has what points.awk makes of the recording NAME, and gets the picture.
+points = ARG1.'/points'
+gaps = ARG1.'/gaps'
+load ARG1.'/facts'
+satellites = words(names)
+
+# A satellite is told from 40 others by colour and shape together. The hues go round by the golden ratio, so that neighbours in number differ.
+hue(n) = n * 0.618034 - floor(n * 0.618034)
+colour(n) = hsv2rgb(hue(n), 0.9, 0.55 + 0.15 * (int(n) % 3))
+shape(n) = word('7 5 9 11 13 4 6 8 10 12', 1 + int(n) % 10) + 0
+
+# C/N0 is a whole number, which many share: each satellite is drawn a little off it, by less than half, so that none hides another.
+aside(n) = (n - 0.5 * (satellites + 1)) * (satellites > 40 ? 0.8 / satellites : 0.02)
+
+set terminal pngcairo size 1400, 1600 noenhanced
+set output ARG1.'/picture'
+set multiplot layout 4, 1 title ARG2 font ',18'
+
+# The names stand on the right, 60 in a column, over the whole height.
+set label 1 'TYPE/SID' at screen 0.985, screen 0.972 right
+do for [i = 1:satellites] {
+    n = word(numbers, i) + 0
+    x = 0.94 - 0.065 * ((i - 1) / 60)
+    y = 0.955 - 0.0155 * ((i - 1) % 60)
+    set label 1 + i word(names, i) at screen x, screen y left offset 1.5, 0 point pointtype shape(n) linecolor rgb colour(n)
+}
+set lmargin at screen 0.08
+set rmargin at screen 0.915 - 0.065 * ((satellites - 1) / 60)
+set xrange [first - 1:last + 1]
+set format x '%.10g'
+set offsets 0, 0, graph 0.05, graph 0.05
 set grid
+unset key
+
+set title 'Range'
+set ylabel 'km'
+plot points using 2:3:(shape($1)):(colour($1)) with points pointtype variable linecolor rgb variable pointsize 0.5
+unset label
+
+set title 'Rate'
+set ylabel 'Hz'
+plot points using 2:4:(shape($1)):(colour($1)) with points pointtype variable linecolor rgb variable pointsize 0.5
+
+set title 'C/N0'
+set ylabel 'dB-Hz'
+plot points using 2:($5 + aside($1)):(shape($1)):(colour($1)) with points pointtype variable linecolor rgb variable pointsize 0.5
+
+set title sprintf('Gap bytes before each message: %d in all, %d of them behind the last message', gap_bytes, behind_bytes)
+set ylabel 'bytes'
 set xlabel 'time of week, s'
-set format x '%.0f'
-set ylabel 'range, km'
-plot for [s in satellites] points using (strcol(1) eq s ? $2 : NaN):3 with points pointtype 7 pointsize 0.5 title s
-set ylabel 'rate, Hz'
-plot for [s in satellites] points using (strcol(1) eq s ? $2 : NaN):4 with points pointtype 7 pointsize 0.5 title s
+unset offsets
+set logscale y
+set yrange [0.7:gap_bytes > 10000 ? 2 * gap_bytes : 20000]
+if (gap_bytes > behind_bytes) {
+    plot gaps using 1:2 with impulses linecolor rgb 'red' linewidth 2, gaps using 1:2 with points pointtype 7 linecolor rgb 'red'
+} else {
+    plot NaN
+}
 unset multiplot

@@ -1,0 +1,160 @@
+# What works in the project alone: proving and building, the gate, the release, the fuzz and the bench. `cablesound` takes this file in.
+
+# FILE: whether it is there, and nothing that is proved has changed since it was made.
+current() { [ -f "$1" ] && [ -z "$(find crates crates.txt -newer "$1" | head -n 1)" ]; }
+
+# CRATE: what is made of it. The exports for C are in board.
+made_of() {
+    case $1 in
+    board) echo target/staticlib/libboard.a ;;
+    *) echo "target/bin/$1" ;;
+    esac
+}
+
+# CRATE...: these and all that they rest on, from the lowest floor up.
+resting_on() {
+    awk -v wanted="$*" '
+        function want(name,    list, count, i) {
+            wants[name] = 1
+            count = split(needs[name], list, " ")
+            for (i = 1; i <= count; i++) if (!(list[i] in wants)) want(list[i])
+        }
+        { sub(/#.*/, "") }
+        split($0, part, ":") == 2 { listed[++lines] = part[1]; needs[part[1]] = part[2] }
+        END {
+            count = split(wanted, list, " ")
+            for (i = 1; i <= count; i++) want(list[i])
+            for (i = 1; i <= lines; i++) if (listed[i] in wants) print listed[i]
+        }' crates.txt
+}
+
+# TEXT: says what is being done, on a line of its own or, on a terminal, in the place of the last.
+announce() {
+    if [ -t 2 ]; then show "$1"; else say "$1"; fi
+}
+
+# CRATE...: says which of these is being proved, by what rt has printed of the others, and ends with rt's status.
+announce_proofs() {
+    count=$# left=" $* " at=1
+    announce "proving $1, 1 of $count"
+    while IFS= read -r line; do
+        case $line in
+        'rt: '*' proved ('*)
+            name=${line#rt: } && name=${name%% *}
+            left="${left%%" $name "*} ${left#*" $name "}"
+            set -- $left
+            at=$((at + 1))
+            [ $# -eq 0 ] || announce "proving $1, $at of $count"
+            ;;
+        'rt ends with '*) status=${line##* } ;;
+        esac
+    done
+    [ ! -t 2 ] || unshow
+    return "$status"
+}
+
+# CRATE...: proves them and all that they rest on.
+prove() {
+    {
+        rt check "$@" 2>&1
+        echo "rt ends with $?"
+    } | tee target/check.log | announce_proofs $(resting_on "$@") || fail "not proved: $*: see target/check.log"
+}
+
+archive() {
+    announce "proving board, for the archive"
+    rt staticlib board >target/archive.log 2>&1 || fail "the archive was not built: see target/archive.log"
+    [ ! -t 2 ] || unshow
+}
+
+# CRATE...: programs, or board for the archive: proves and builds those that are older than what they are made of. A subshell: it stands elsewhere.
+provide() (
+    cd "$root" || exit 2
+    old=''
+    for crate in "$@"; do
+        current "$(made_of "$crate")" || old="$old $crate"
+    done
+    [ -n "$old" ] || exit 0
+    need_rt
+    mkdir -p target
+    prove $old
+    case "$old " in
+    *' board '*) archive ;;
+    esac
+    for crate in $old; do
+        touch "$(made_of "$crate")"
+    done
+)
+
+need_rt() {
+    command -v rt >/dev/null 2>&1 || fail "no rt on this machine: the Rattle toolchain is needed"
+}
+
+# What support and a C host need where there is no toolchain, in one folder that can be copied anywhere.
+build() {
+    provide $programs board || exit 1
+    mkdir -p build/help build/tools build/samples &&
+        cp cablesound release/* include/cablesound.h tests/host/recording.c build/ &&
+        cp target/staticlib/libboard.a build/libcablesound.a &&
+        (cd target/bin && cp $programs ../../build/) &&
+        (cd help && cp list rows plot help ../build/help/) &&
+        cp tools/plot.gnuplot tools/points.awk build/tools/ &&
+        cp samples/sortie.macm build/samples/ || fail "nothing can be put into build/"
+    say "build/ is a release: build/README.md says what is in it"
+}
+
+# SECONDS [SEED]
+fuzz() {
+    case ${1:-} in
+    '' | *[!0-9]*) fail "fuzz needs a number of seconds" ;;
+    esac
+    provide board || exit 1
+    cd tests && cargo run --offline --locked --quiet --bin fuzz -- "$@"
+}
+
+# NAME FILE...: a program of bench/.
+compile() {
+    name=$1
+    shift
+    gcc -std=c11 -O2 -Wall -Wextra -Werror -Ibuild "$@" -o "target/bench/$name" || fail "bench: $name does not compile"
+}
+
+bench() {
+    say "builds the library, its listing program and the reader in C, then measures for some 30 seconds"
+    build
+    mkdir -p target/bench || exit 2
+    compile listing bench/listing.c bench/reader.c
+    compile bench bench/bench.c bench/process.c bench/reader.c bench/streams.c build/libcablesound.a
+    target/bench/bench target/bench target/bin/listing
+}
+
+# The gate. rt's own tally is held back until everything else has passed, so that it is the very last line.
+gate() {
+    need_rt
+    make_room
+    rt fmt --check || fail "a file is not in the layout: run 'rt fmt'"
+    {
+        rt ci 2>&1
+        echo $? >"$work/status"
+    } | tee "$work/log" | grep -Ev '^[0-9]+ passed, [0-9]+ failed$'
+    [ "$(cat "$work/status")" -eq 0 ] || fail "rt ci failed: $(tail -n 1 "$work/log")"
+    archive
+    for test in tests/*.sh; do
+        sh "$test" || fail "$test failed"
+    done
+    tail -n 1 "$work/log"
+}
+
+# COMMAND [WORD...]
+project() {
+    cd "$root" || exit 2
+    case $1 in
+    test) gate </dev/null ;;
+    build) build </dev/null ;;
+    bench) bench </dev/null ;;
+    fuzz)
+        shift
+        fuzz "$@"
+        ;;
+    esac
+}
