@@ -11,21 +11,25 @@ made_of() {
     esac
 }
 
-# CRATE...: these and all that they rest on, from the lowest floor up.
+# CRATE...: these and all that they rest on, in the order in which rt proves them: those that rest on nothing first, then those that rest on these alone.
 resting_on() {
     awk -v wanted="$*" '
-        function want(name,    list, count, i) {
-            wants[name] = 1
+        function visit(name,    list, count, i) {
+            if (!(name in needs) || name in level) return
+            level[name] = 0
             count = split(needs[name], list, " ")
-            for (i = 1; i <= count; i++) if (!(list[i] in wants)) want(list[i])
+            for (i = 1; i <= count; i++) {
+                visit(list[i])
+                if (list[i] in level && level[list[i]] >= level[name]) level[name] = level[list[i]] + 1
+            }
+            print level[name], name
         }
         { sub(/#.*/, "") }
-        split($0, part, ":") == 2 { listed[++lines] = part[1]; needs[part[1]] = part[2] }
+        split($0, part, ":") == 2 { needs[part[1]] = part[2] }
         END {
             count = split(wanted, list, " ")
-            for (i = 1; i <= count; i++) want(list[i])
-            for (i = 1; i <= lines; i++) if (listed[i] in wants) print listed[i]
-        }' crates.txt
+            for (i = 1; i <= count; i++) visit(list[i])
+        }' crates.txt | sort -s -n -k 1,1 | cut -d ' ' -f 2
 }
 
 # TEXT: says what is being done, on a line of its own or, on a terminal, in the place of the last.

@@ -1,12 +1,14 @@
 //! What the programs have to print, from the second reader and by other means than theirs: Rust's formatting, exact decimal expansions, strings.
 
 mod sample;
+mod started;
 mod vectors;
 
 pub use sample::recording;
+pub use started::started;
 pub use vectors::vectors;
 
-use reader::{divide, lock_ms, phase, range_um, Form, Header, Message, Observation, Phase};
+use reader::{divide, lock_ms, phase, range_um, standing, Form, Header, Message, Observation, Phase, Standing};
 
 pub const LISTING_HEADING: &str = "at bytes form obs time\n";
 pub const ROWS_HEADING: &str = "at time form type sid cn0 condition range phase bits polarity rate lock\n";
@@ -18,7 +20,7 @@ fn time(header: Header) -> u32 {
 }
 
 /// The line of a message in the listing.
-fn line(position: usize, bytes: &[u8]) -> String {
+pub fn line(position: usize, bytes: &[u8]) -> String {
     let message = Message::from_bytes(bytes).expect("the division gives valid messages");
     let form = if message.header.form() == Form::New { "v2" } else { "v1" };
     format!("{position} {} {form} {} {}\n", bytes.len(), message.observations.len(), time(message.header))
@@ -45,7 +47,24 @@ pub fn rows(stream: &[u8]) -> String {
     text
 }
 
-fn rows_of(position: usize, bytes: &[u8]) -> String {
+/// What a program has to print of the bytes that have come while more may come: of the messages that are settled from this position on, which moves to
+/// the first byte that is not.
+pub fn settled(text_of: fn(usize, &[u8]) -> String, come: &[u8], position: &mut usize) -> String {
+    let mut text = String::new();
+    loop {
+        match standing(&come[*position..]) {
+            Standing::Open => return text,
+            Standing::Gap => *position += 1,
+            Standing::Message(length) => {
+                text += &text_of(*position, &come[*position..*position + length]);
+                *position += length;
+            }
+        }
+    }
+}
+
+/// The rows of a message.
+pub fn rows_of(position: usize, bytes: &[u8]) -> String {
     let message = Message::from_bytes(bytes).expect("the division gives valid messages");
     message.observations.iter().map(|observation| row(position, message.header, observation)).collect()
 }

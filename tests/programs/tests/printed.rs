@@ -1,8 +1,6 @@
 //! The programs print what the second reader prints, whatever the stream and however it arrives.
 
 use std::io::Write;
-use std::path::Path;
-use std::process::{Command, Stdio};
 
 use streams::Random;
 
@@ -11,12 +9,7 @@ const STREAMS: usize = 150;
 
 /// What a program of target/bin prints for a stream that arrives in these pieces.
 fn printed(program: &str, stream: &[u8], pieces: &[usize]) -> String {
-    let path = Path::new(env!("CARGO_MANIFEST_DIR")).join("../../target/bin").join(program);
-    let mut child = Command::new(&path)
-        .stdin(Stdio::piped())
-        .stdout(Stdio::piped())
-        .spawn()
-        .unwrap_or_else(|error| panic!("{}: {error}: run `rt check {program}` first", path.display()));
+    let mut child = programs::started(program);
     let mut input = child.stdin.take().expect("standard input is a pipe");
     let (bytes, pieces) = (stream.to_vec(), pieces.to_vec());
     let writer = std::thread::spawn(move || {
