@@ -1,6 +1,7 @@
 #!/bin/sh
-# The stored outputs are what the second reader prints, and `./cablesound` runs the programs on files and standard input, with a clear line for bad input.
-# Needs target/bin, which `rt ci` leaves. That the programs print the same on many streams is among the tests of tests/readers.sh.
+# The stored outputs are what the second reader prints, and `./cablesound` runs the programs on files, standard input and a live line, with a clear line
+# and an exit status for bad input, and a screen of help. Needs target/bin, which `rt ci` leaves. That the programs print the same on many streams is among
+# the tests of tests/readers.sh.
 set -u
 root=$(cd "$(dirname "$0")/.." && pwd -P) || exit 2
 cd "$root" || exit 2
@@ -8,25 +9,86 @@ fail() {
     echo "programs: FAILED: $*"
     exit 1
 }
+
+# STATUS LINE WORD...: the command ends with this status and says this one line, or nothing, on standard error
+says() {
+    status=$1 line=$2
+    shift 2
+    "$@" >target/programs.out 2>target/programs.err
+    ended=$?
+    [ "$ended" -eq "$status" ] || fail "'$*' ends with $ended, not $status"
+    [ "$(cat target/programs.err)" = "$line" ] || fail "'$*' says: $(cat target/programs.err)"
+}
+
+# The same, of a command in words of the shell.
+shell_says() { says "$1" "$2" sh -c "$3"; }
+
 sh samples/make.sh check || fail "a stored output is another"
 ./cablesound list samples/sortie.macm | cmp -s - samples/sortie.listing || fail "list prints something else than samples/sortie.listing"
 ./cablesound rows samples/sortie.macm | cmp -s - samples/sortie.rows || fail "rows prints something else than samples/sortie.rows"
 ./cablesound rows <samples/sortie.macm | cmp -s - samples/sortie.rows || fail "rows prints something else from standard input"
 printf 'at bytes form obs time\nend 0 messages 0 gap 0\n' >target/empty.listing
 ./cablesound list </dev/null | cmp -s - target/empty.listing || fail "list of nothing"
-said=$(./cablesound list no/such/file 2>&1) && fail "list of a file that is not there succeeds"
-[ "$said" = 'cablesound: no such file: no/such/file' ] || fail "list of a file that is not there says: $said"
-said=$(./cablesound list samples 2>&1) && fail "list of a folder succeeds"
-[ "$said" = 'cablesound: this is a folder: samples' ] || fail "list of a folder says: $said"
 (cd samples && ../cablesound list sortie.macm) | cmp -s - samples/sortie.listing || fail "list takes a name from another folder than the caller's"
-said=$(cd samples && ../cablesound list samples/sortie.macm 2>&1) && fail "list takes a name from the project's folder"
 cat samples/sortie.macm | ./cablesound list /dev/stdin | cmp -s - samples/sortie.listing || fail "list of a pipe"
-rm -f target/sortie.png
-said=$(./cablesound plot samples/sortie.macm target/sortie.png 2>&1) || case $said in
-*'no gnuplot on this machine: install it'*) ;;
-*) fail "plot says: $said" ;;
-esac
-! command -v gnuplot >/dev/null 2>&1 || [ "$(head -c 4 target/sortie.png | tail -c 3)" = PNG ] || fail "plot makes no picture"
-said=$(target/bin/listing 2>&1 <&-) || fail "the listing stops where standard input is closed"
-[ "$(printf %s "$said" | head -n 1)" = 'standard input: Bad file descriptor' ] || fail "the listing does not say that it cannot read: $said"
-echo "programs: list and rows print what the second reader prints, and say what they cannot read"
+ln -sf ../cablesound target/linked && target/linked list samples/sortie.macm | cmp -s - samples/sortie.listing || fail "list by a link to the command"
+
+# Bad input and output that cannot be written: a line and a status.
+says 1 'cablesound: no such file: no/such/file' ./cablesound list no/such/file
+says 1 'cablesound: this is a folder: samples' ./cablesound list samples
+says 1 'cablesound: one recording at a time' ./cablesound rows samples/sortie.macm samples/sortie.macm
+shell_says 1 'cablesound: no such file: samples/sortie.macm' 'cd samples && ../cablesound list samples/sortie.macm'
+shell_says 1 'cablesound: standard input is closed' './cablesound list <&-'
+shell_says 1 'error: standard input: Is a directory' './cablesound list <samples'
+cmp -s target/programs.out target/empty.listing || fail "what was read before an error is not listed"
+shell_says 1 'error: standard output: No space left on device' './cablesound list samples/sortie.macm >/dev/full'
+shell_says 1 'error: standard output: No space left on device' './cablesound rows <samples/sortie.macm >/dev/full'
+shell_says 1 'error: standard output: Bad file descriptor' './cablesound list samples/sortie.macm >&-'
+shell_says 0 'error: standard input: Bad file descriptor' 'target/bin/listing <&-'
+says 2 "$(printf 'cablesound: no such command: lists\n' && ./cablesound help)" ./cablesound lists
+
+# A reader that goes away early is no error: more is printed than a pipe holds.
+for _ in 1 2 3 4 5 6 7 8; do cat samples/sortie.macm; done >target/long.macm
+shell_says 0 '' './cablesound rows target/long.macm | head -n 1'
+
+# A live line: what has come is printed while the line is open, and the program ends with the command that runs it.
+rm -f target/line && mkfifo target/line || exit 2
+./cablesound rows <target/line >target/line.rows &
+live=$!
+exec 7>target/line
+head -c 5000 samples/sortie.macm >&7
+awk 'NR == 1 || $1 + 112 <= 5000' samples/sortie.rows >target/due.rows
+for _ in 1 2 3 4 5 6 7 8 9 10; do
+    cmp -s target/line.rows target/due.rows && break
+    sleep 0.5
+done
+cmp target/line.rows target/due.rows || fail "rows keeps lines back while the line is open"
+kill "$live" && wait "$live" 2>/dev/null
+[ $? -eq 143 ] || fail "rows does not end by the signal that it is sent"
+(head -c 200000 /dev/zero >&7) 2>/dev/null && fail "the program goes on where the command has ended"
+exec 7>&-
+
+# Help: of each command a screen, and of all a line.
+for command in $(./cablesound help | sed -n 's/^  \.\/cablesound \([a-z]*\).*/\1/p'); do
+    says 0 '' ./cablesound help "$command"
+    awk 'length($0) > 79 || NR > 23 { bad = 1 } END { exit bad || NR < 4 }' target/programs.out || fail "help $command is no screen"
+    ./cablesound "$command" --help | cmp -s - target/programs.out || fail "$command --help is not its help"
+done
+[ "${command:-}" = help ] || fail "help does not list the commands"
+
+# The picture, or a line that says what it needs; what it is drawn from does not need gnuplot.
+rm -rf target/points && mkdir target/points || exit 2
+awk -v folder=target/points -f tools/points.awk samples/sortie.listing samples/sortie.rows || fail "points.awk stops"
+[ "$(wc -l <target/points/points)" -eq 472 ] || fail "the picture does not show every observation"
+[ "$(tr '\n' ' ' <target/points/gaps)" = '245370.000 30 245390.500 112 245420.000 5 ' ] || fail "the picture shows other gaps: $(cat target/points/gaps)"
+grep -qx "names = '0/2 0/7 0/14 0/24 old/2 old/7 old/14 old/24 '" target/points/facts || fail "the picture names its satellites otherwise"
+grep -qx 'behind_bytes = 70' target/points/facts || fail "the picture's last gap is another"
+if command -v gnuplot >/dev/null 2>&1; then
+    says 0 '' ./cablesound plot samples/sortie.macm target/sortie.png
+    [ "$(head -c 4 target/sortie.png | tail -c 3)" = PNG ] || fail "plot makes no picture"
+    says 1 'cablesound: no observation in /dev/null' ./cablesound plot /dev/null target/none.png
+    says 1 'cablesound: this picture cannot be written: target/none/none.png' ./cablesound plot samples/sortie.macm target/none/none.png
+else
+    says 1 "cablesound: no gnuplot on this machine: install it, on Debian with 'apt install gnuplot-nox'" ./cablesound plot samples/sortie.macm target/sortie.png
+fi
+echo "programs: list and rows print what the second reader prints, also on a live line, and say what they cannot read"
