@@ -39,7 +39,7 @@ announce() {
 
 # CRATE...: says which of these is being proved, by what rt has printed of the others, and ends with rt's status.
 announce_proofs() {
-    count=$# left=" $* " at=1
+    count=$# left=" $* " at=1 status=1
     announce "proving $1, 1 of $count"
     while IFS= read -r line; do
         case $line in
@@ -101,7 +101,7 @@ build() {
         cp cablesound release/* include/cablesound.h tests/host/recording.c build/ &&
         cp target/staticlib/libboard.a build/libcablesound.a &&
         (cd target/bin && cp $programs ../../build/) &&
-        (cd help && cp list rows plot help ../build/help/) &&
+        (cd help && cp $commands help ../build/help/) &&
         cp tools/plot.gnuplot tools/points.awk build/tools/ &&
         cp samples/sortie.macm build/samples/ || fail "nothing can be put into build/"
     say "build/ is a release: build/README.md says what is in it"
