@@ -37,18 +37,15 @@ announce() {
     if [ -t 2 ]; then show "$1"; else say "$1"; fi
 }
 
-# CRATE...: says which of these is being proved, by what rt has printed of the others, and ends with rt's status.
+# CRATE...: says which of these is being proved, the first of which rt has printed nothing yet, and ends with rt's status.
 announce_proofs() {
-    count=$# left=" $* " at=1 status=1
+    count=$# status=1
     announce "proving $1, 1 of $count"
     while IFS= read -r line; do
         case $line in
         'rt: '*' proved ('*)
-            name=${line#rt: } && name=${name%% *}
-            left="${left%%" $name "*} ${left#*" $name "}"
-            set -- $left
-            at=$((at + 1))
-            [ $# -eq 0 ] || announce "proving $1, $at of $count"
+            shift
+            [ $# -eq 0 ] || announce "proving $1, $((count - $# + 1)) of $count"
             ;;
         'rt ends with '*) status=${line##* } ;;
         esac
