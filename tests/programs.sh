@@ -50,6 +50,7 @@ says 2 "$(printf 'cablesound: no such command: lists\n' && ./cablesound help)" .
 # A reader that goes away early is no error: more is printed than a pipe holds.
 for _ in 1 2 3 4 5 6 7 8; do cat samples/sortie.macm; done >target/long.macm
 shell_says 0 '' './cablesound rows target/long.macm | head -n 1'
+shell_says 0 '' 'trap "" PIPE; ./cablesound rows target/long.macm | head -n 1'
 
 # A live line: what has come is printed while the line is open, and the program ends with the command that runs it.
 rm -f target/line && mkfifo target/line || exit 2

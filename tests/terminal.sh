@@ -31,14 +31,14 @@ said=$(terminal 'cat recording | ./cablesound rows >printed')
 [ -z "$said" ] || fail "of a pipe it shows: $said"
 ./cablesound rows recording >printed 2>said
 [ ! -s said ] || fail "where there is no terminal it says: $(cat said)"
-printf '#!/bin/sh\nsleep 0.8\necho "error: late" >&2\n' >rows
-said=$(terminal './cablesound rows recording >printed')
+printf '#!/bin/sh\nsleep 1.2\necho "error: late" >&2\n' >rows
+said=$(terminal './cablesound rows recording >printed' | uniq)
 [ "$said" = "$(printf 'cablesound: 0 %% of 1 MB\nerror: late')" ] || fail "an error behind what is shown reads: $said"
 
-# ---- the first use, in a project of three crates
-mkdir -p "$work/project/crates" "$work/bin" || exit 2
-cp -R "$root/cablesound" "$root/tools" "$root/help" "$work/project/" || exit 2
-cd "$work/project" || exit 2
+# ---- the first use, in a project of three crates and one more
+mkdir "$work/project" "$work/bin" && cd "$work/project" || exit 2
+cp -R "$root/cablesound" "$root/tools" "$root/help" . || exit 2
+mkdir -p crates/first crates/second crates/listing crates/unused || exit 2
 printf 'first:\nlisting: second io # a program\nunused: first\nsecond: first\n' >crates.txt
 cat >"$work/bin/rt" <<'STUB'
 #!/bin/sh
@@ -58,8 +58,10 @@ proving=$(printf 'cablesound: proving first, 1 of 3\ncablesound: proving second,
 [ "$(./cablesound list </dev/null 2>said)" = listed ] || fail "the first use lists nothing"
 [ "$(cat said)" = "$proving" ] || fail "the first use says: $(cat said)"
 [ "$(./cablesound list </dev/null 2>&1)" = listed ] || fail "the second use says more"
+sleep 0.1 && touch crates/unused/changed
+[ "$(./cablesound list </dev/null 2>&1)" = listed ] || fail "it says more where something else has changed"
 [ "$(cat calls)" = 'check listing' ] || fail "rt is called otherwise: $(cat calls)"
-sleep 0.1 && touch crates/changed
+touch crates/second/changed
 [ "$(terminal './cablesound list </dev/null')" = "$(printf '%s\nlisted' "$proving")" ] || fail "after a change the terminal shows something else"
 [ "$(wc -l <calls)" -eq 2 ] || fail "after a change nothing is proved again"
 touch broken && rm -r target

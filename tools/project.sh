@@ -1,8 +1,5 @@
 # What works in the project alone: proving and building, the gate, the release, the fuzz and the bench. `cablesound` takes this file in.
 
-# FILE: whether it is there, and nothing that is proved has changed since it was made.
-current() { [ -f "$1" ] && [ -z "$(find crates crates.txt -newer "$1" | head -n 1)" ]; }
-
 # CRATE: what is made of it. The exports for C are in board.
 made_of() {
     case $1 in
@@ -30,6 +27,12 @@ resting_on() {
             count = split(wanted, list, " ")
             for (i = 1; i <= count; i++) visit(list[i])
         }' crates.txt | sort -s -n -k 1,1 | cut -d ' ' -f 2
+}
+
+# CRATE: whether what is made of it is there, and nothing that it rests on has changed since.
+current() {
+    made=$(made_of "$1")
+    [ -f "$made" ] && [ -z "$(find crates.txt $(resting_on "$1" | sed 's|^|crates/|') -newer "$made" | head -n 1)" ]
 }
 
 # TEXT: says what is being done, on a line of its own or, on a terminal, in the place of the last.
@@ -73,7 +76,7 @@ provide() (
     cd "$root" || exit 2
     old=''
     for crate in "$@"; do
-        current "$(made_of "$crate")" || old="$old $crate"
+        current "$crate" || old="$old $crate"
     done
     [ -n "$old" ] || exit 0
     need_rt
@@ -137,7 +140,7 @@ gate() {
     {
         rt ci 2>&1
         echo $? >"$work/status"
-    } | tee "$work/log" | grep -Ev '^[0-9]+ passed, [0-9]+ failed$'
+    } | tee "$work/log" | grep --line-buffered -Ev '^[0-9]+ passed, [0-9]+ failed$'
     [ "$(cat "$work/status")" -eq 0 ] || fail "rt ci failed: $(tail -n 1 "$work/log")"
     archive
     for test in tests/*.sh; do

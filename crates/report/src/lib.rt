@@ -76,12 +76,14 @@ fn read_on(progress: Progress, buffer: &mut [u8]) -> Progress {
 
 // ---- text out
 
-// Writes out the text that waits, or says why it cannot.
+// Writes out the text that waits, or says why it cannot. That a reader has gone away, as `head` does, is no failure.
 fn write_out(text: &[u8], waiting: usize) -> bool {
     if io::write_all(libc::STDOUT_FILENO, text::front(text, waiting)) {
         return true;
     }
-    os::fail(b"error: standard output");
+    if os::errno() != libc::EPIPE {
+        os::fail(b"error: standard output");
+    }
     false
 }
 

@@ -68,6 +68,7 @@ fn put_reply(text: &mut [u8], at: usize, reply: Reply, output: &[u8]) -> usize {
 fn load(name: &[u8], recording: &mut [u8]) -> usize {
     let file = os::open_read(name);
     if file < 0 {
+        io::write_all(libc::STDERR_FILENO, b"error: ");
         os::fail(name);
         return 0;
     }
