@@ -47,7 +47,7 @@ announce_proofs() {
     while IFS= read -r line; do
         case $line in
         'rt: '*' proved ('*)
-            shift
+            [ $# -eq 0 ] || shift
             [ $# -eq 0 ] || announce "proving $1, $((count - $# + 1)) of $count"
             ;;
         'rt ends with '*) status=${line##* } ;;
