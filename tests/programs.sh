@@ -14,10 +14,10 @@ fail() {
 says() {
     status=$1 line=$2
     shift 2
-    "$@" >target/programs.out 2>target/programs.err
+    "$@" >"$root/target/programs.out" 2>"$root/target/programs.err"
     ended=$?
     [ "$ended" -eq "$status" ] || fail "'$*' ends with $ended, not $status"
-    [ "$(cat target/programs.err)" = "$line" ] || fail "'$*' says: $(cat target/programs.err)"
+    [ "$(cat "$root/target/programs.err")" = "$line" ] || fail "'$*' says: $(cat "$root/target/programs.err")"
 }
 
 # The same, of a command in words of the shell.
@@ -45,7 +45,8 @@ shell_says 1 'error: standard output: No space left on device' './cablesound lis
 shell_says 1 'error: standard output: No space left on device' './cablesound rows <samples/sortie.macm >/dev/full'
 shell_says 1 'error: standard output: Bad file descriptor' './cablesound list samples/sortie.macm >&-'
 shell_says 0 'error: standard input: Bad file descriptor' 'target/bin/listing <&-'
-says 2 "$(printf 'cablesound: no such command: lists\n' && ./cablesound help)" ./cablesound lists
+says 2 "$(printf 'cablesound: no such command: list rows\n' && ./cablesound help)" ./cablesound 'list rows'
+shell_says 1 'cablesound: standard output cannot be written' './cablesound help >/dev/full'
 
 # A reader that goes away early is no error: more is printed than a pipe holds.
 for _ in 1 2 3 4 5 6 7 8; do cat samples/sortie.macm; done >target/long.macm
@@ -87,9 +88,23 @@ grep -qx 'behind_bytes = 70' target/points/facts || fail "the picture's last gap
 if command -v gnuplot >/dev/null 2>&1; then
     says 0 '' ./cablesound plot samples/sortie.macm target/sortie.png
     [ "$(head -c 4 target/sortie.png | tail -c 3)" = PNG ] || fail "plot makes no picture"
-    says 1 'cablesound: no observation in /dev/null' ./cablesound plot /dev/null target/none.png
-    says 1 'cablesound: this picture cannot be written: target/none/none.png' ./cablesound plot samples/sortie.macm target/none/none.png
 else
     says 1 "cablesound: no gnuplot on this machine: install it, on Debian with 'apt install gnuplot-nox'" ./cablesound plot samples/sortie.macm target/sortie.png
 fi
+
+# Around the drawing: a gnuplot stands in that writes its words for a picture.
+mkdir -p target/drawing && cd target/drawing || exit 2
+printf '#!/bin/sh\nshift 2\necho "$2" >"$1/picture"\n' >gnuplot && chmod +x gnuplot
+PATH=$PWD:$PATH
+export PATH
+cp "$root/samples/sortie.macm" -- -sortie.macm || exit 2
+says 0 '' "$root/cablesound" plot -sortie.macm -out.png
+[ "$(cat -- -out.png)" = -sortie.macm ] || fail "the picture has another name: $(cat -- -out.png)"
+cat -- -sortie.macm | "$root/cablesound" plot /dev/stdin out.png || fail "plot of a pipe"
+says 1 'cablesound: no observation in /dev/null' "$root/cablesound" plot /dev/null none.png
+says 1 'cablesound: this picture cannot be written: none/none.png' "$root/cablesound" plot -sortie.macm none/none.png
+says 1 'cablesound: this is a folder: .' "$root/cablesound" plot -sortie.macm .
+says 1 "cablesound: the picture would take the recording's place: ./-sortie.macm" "$root/cablesound" plot -sortie.macm ./-sortie.macm
+says 1 'cablesound: plot needs a recording and a picture: ./cablesound plot FILE OUT.png' "$root/cablesound" plot -sortie.macm
+cd "$root" || exit 2
 echo "programs: list and rows print what the second reader prints, also on a live line, and say what they cannot read"

@@ -12,27 +12,35 @@ command -v script >/dev/null 2>&1 || fail "no script on this machine: on Debian 
 work=$(mktemp -d) || exit 2
 trap 'rm -rf "$work"' EXIT
 
+# COMMAND...: whether it succeeds within some seconds
+soon() {
+    for _ in 1 2 3 4 5 6 7 8 9 10 11 12 13 14 15 16 17 18 19 20; do
+        "$@" && return
+        sleep 0.2
+    done
+    return 1
+}
+
 # COMMAND: what appears on a terminal on which it runs, a line for each piece that is written over
 terminal() { script -qec "$1" /dev/null </dev/null | tr -d '\n' | tr '\r' '\n' | sed 's/ *$//' | grep -v '^$'; }
 
-# ---- a long recording: half of it is read, then the program takes a little more than a second
+# ---- a long recording: half of it is read, then after a second the rest, and a second goes by again
 cp -R "$root/build" "$work/release" || exit 2
 cd "$work/release" || exit 2
 head -c 1000000 /dev/zero >recording
-printf '#!/bin/sh\nhead -c 500000 >/dev/null\nsleep 1.3\necho rows\n' >rows
+printf '#!/bin/sh\nhead -c 500000 >/dev/null\nsleep 1.1\ncat >/dev/null\nsleep 1.1\necho rows\n' >rows
 said=$(terminal './cablesound rows recording >printed')
-[ "$(printf '%s\n' "$said" | sort -u)" = 'cablesound: 50 % of 1 MB' ] || fail "on a terminal rows shows: $said"
-shown=$(printf '%s\n' "$said" | wc -l)
-[ "$shown" -ge 1 ] && [ "$shown" -le 3 ] || fail "in little more than a second it is shown $shown times"
+[ "$said" = "$(printf 'cablesound: 50 %% of 1 MB\ncablesound: 100 %% of 1 MB')" ] || fail "on a terminal rows shows: $said"
 [ "$(cat printed)" = rows ] || fail "what is shown stands in what is printed: $(cat printed)"
+printf '#!/bin/sh\nsleep 0.8\necho rows\n' >rows
 said=$(terminal './cablesound rows recording')
 [ "$said" = rows ] || fail "where rows are printed on the terminal it shows: $said"
 said=$(terminal 'cat recording | ./cablesound rows >printed')
 [ -z "$said" ] || fail "of a pipe it shows: $said"
 ./cablesound rows recording >printed 2>said
 [ ! -s said ] || fail "where there is no terminal it says: $(cat said)"
-printf '#!/bin/sh\nsleep 1.2\necho "error: late" >&2\n' >rows
-said=$(terminal './cablesound rows recording >printed' | uniq)
+printf '#!/bin/sh\nsleep 0.9\necho "error: late" >&2\n' >rows
+said=$(terminal './cablesound rows recording >printed')
 [ "$said" = "$(printf 'cablesound: 0 %% of 1 MB\nerror: late')" ] || fail "an error behind what is shown reads: $said"
 
 # ---- the first use, in a project of three crates and one more
@@ -44,6 +52,7 @@ cat >"$work/bin/rt" <<'STUB'
 #!/bin/sh
 echo "$@" >>calls
 [ ! -e broken ] || { echo 'rt: first NOT PROVED (exit 1, 1 s)' && exit 1; }
+[ ! -e slow ] || { sleep 60 & echo $! >prover && wait; }
 for crate in first second listing; do
     echo "fn $crate::main: proved"
     echo "rt: $crate proved (1 s)"
@@ -67,6 +76,21 @@ touch crates/second/changed
 touch broken && rm -r target
 ./cablesound list </dev/null >printed 2>said && fail "what is not proved is run"
 [ "$(tail -n 1 said)" = 'cablesound: not proved: listing: see target/check.log' ] || fail "what is not proved says: $(cat said)"
+
+# Of two uses at once one waits for the other, and with a use all that it started ends.
+rm -r broken calls target 2>/dev/null
+./cablesound list </dev/null >one 2>&1 &
+./cablesound list </dev/null >two 2>&1 || fail "one of two uses fails: $(cat two)"
+wait $! || fail "one of two uses fails: $(cat one)"
+[ "$(cat calls)" = 'check listing' ] || fail "two uses prove twice: $(cat calls)"
+touch slow && rm -r target
+./cablesound list </dev/null >printed 2>&1 &
+use=$!
+soon test -s prover || fail "the first use does not start rt"
+kill "$use" && wait "$use" 2>/dev/null
+[ $? -eq 143 ] || fail "the first use does not end by the signal that it is sent"
+soon sh -c '! kill -0 "$(cat prover)" 2>/dev/null' || fail "a prover outlives the first use"
+
 for crate in $(sed 's/#.*//; s/:.*//' "$root/crates.txt"); do
     grep -q "^rt: $crate proved (" "$root/target/log/$crate.out" || fail "rt says of $crate: $(tail -n 1 "$root/target/log/$crate.out")"
 done

@@ -17,37 +17,36 @@ set terminal pngcairo size 1400, 1600 noenhanced
 set output ARG1.'/picture'
 set multiplot layout 4, 1 title ARG2 font ',18'
 
-# The names stand on the right, 60 in a column, over the whole height.
+# The names stand on the right over the whole height, 60 or more in a column, in four columns at most.
+rows = satellites > 240 ? (satellites + 3) / 4 : 60
+columns = (satellites + rows - 1) / rows
 set label 1 'TYPE/SID' at screen 0.985, screen 0.972 right
 do for [i = 1:satellites] {
     n = word(numbers, i) + 0
-    x = 0.94 - 0.065 * ((i - 1) / 60)
-    y = 0.955 - 0.0155 * ((i - 1) % 60)
+    x = 1.005 - 0.065 * (columns - (i - 1) / rows)
+    y = 0.955 - 0.93 / rows * ((i - 1) % rows)
     set label 1 + i word(names, i) at screen x, screen y left offset 1.5, 0 point pointtype shape(n) linecolor rgb colour(n)
 }
 set lmargin at screen 0.08
-set rmargin at screen 0.915 - 0.065 * ((satellites - 1) / 60)
+set rmargin at screen 0.98 - 0.065 * columns
 set xrange [first - 1:last + 1]
 set format x '%.10g'
+set format y '%.10g'
 set offsets 0, 0, graph 0.05, graph 0.05
 set grid
 unset key
 
-set title 'Range'
-set ylabel 'km'
+set title 'Range, km'
 plot points using 2:3:(shape($1)):(colour($1)) with points pointtype variable linecolor rgb variable pointsize 0.5
 unset label
 
-set title 'Rate'
-set ylabel 'Hz'
+set title 'Rate, Hz'
 plot points using 2:4:(shape($1)):(colour($1)) with points pointtype variable linecolor rgb variable pointsize 0.5
 
-set title 'C/N0'
-set ylabel 'dB-Hz'
+set title 'C/N0, dB-Hz'
 plot points using 2:($5 + aside($1)):(shape($1)):(colour($1)) with points pointtype variable linecolor rgb variable pointsize 0.5
 
 set title sprintf('Gap bytes before each message: %d in all, %d of them behind the last message', gap_bytes, behind_bytes)
-set ylabel 'bytes'
 set xlabel 'time of week, s'
 unset offsets
 set logscale y

@@ -29,10 +29,12 @@ resting_on() {
         }' crates.txt | sort -s -n -k 1,1 | cut -d ' ' -f 2
 }
 
-# CRATE: whether what is made of it is there, and nothing that it rests on has changed since.
-current() {
-    made=$(made_of "$1")
-    [ -f "$made" ] && [ -z "$(find crates.txt $(resting_on "$1" | sed 's|^|crates/|') -newer "$made" | head -n 1)" ]
+# CRATE...: those of them of which nothing is made yet, or that rest on something that has changed since.
+outdated() {
+    for crate in "$@"; do
+        made=$(made_of "$crate")
+        [ -f "$made" ] && [ -z "$(find crates.txt $(resting_on "$crate" | sed 's|^|crates/|') -newer "$made" -print -quit)" ] || echo "$crate"
+    done
 }
 
 # TEXT: says what is being done, on a line of its own or, on a terminal, in the place of the last.
@@ -40,55 +42,64 @@ announce() {
     if [ -t 2 ]; then show "$1"; else say "$1"; fi
 }
 
-# CRATE...: says which of these is being proved, the first of which rt has printed nothing yet, and ends with rt's status.
+# CRATE...: says which of these is being proved, the first of which rt has printed nothing yet, and keeps what it prints.
 announce_proofs() {
-    count=$# status=1
+    count=$#
     announce "proving $1, 1 of $count"
     while IFS= read -r line; do
+        printf '%s\n' "$line"
         case $line in
         'rt: '*' proved ('*)
             [ $# -eq 0 ] || shift
             [ $# -eq 0 ] || announce "proving $1, $((count - $# + 1)) of $count"
             ;;
-        'rt ends with '*) status=${line##* } ;;
         esac
-    done
-    [ ! -t 2 ] || unshow
-    return "$status"
+    done >target/check.log
 }
 
-# CRATE...: proves them and all that they rest on.
+# CRATE...: proves them and all that they rest on. rt has a process group of its own, so that none of its provers outlives this run.
 prove() {
-    {
-        rt check "$@" 2>&1
-        echo "rt ends with $?"
-    } | tee target/check.log | announce_proofs $(resting_on "$@") || fail "not proved: $*: see target/check.log"
+    mkfifo "$work/proved" || fail "no pipe can be made in $work"
+    announce_proofs $(resting_on "$@") <"$work/proved" &
+    announcing=$!
+    await setsid rt check "$@" >"$work/proved" 2>&1
+    status=$?
+    wait "$announcing"
+    [ ! -t 2 ] || unshow
+    [ "$status" -eq 0 ] || fail "not proved: $*: see target/check.log"
 }
 
 archive() {
     announce "proving board, for the archive"
-    rt staticlib board >target/archive.log 2>&1 || fail "the archive was not built: see target/archive.log"
+    await setsid rt staticlib board >target/archive.log 2>&1 || fail "the archive was not built: see target/archive.log"
     [ ! -t 2 ] || unshow
 }
 
-# CRATE...: programs, or board for the archive: proves and builds those that are older than what they are made of. A subshell: it stands elsewhere.
-provide() (
+# CRATE...: programs, or board for the archive: proves and builds those that are out of date. Of two runs that want to, one waits.
+provide() {
+    here=$PWD
     cd "$root" || exit 2
-    old=''
-    for crate in "$@"; do
-        current "$crate" || old="$old $crate"
-    done
-    [ -n "$old" ] || exit 0
-    need_rt
-    mkdir -p target
-    prove $old
-    case "$old " in
+    if [ -n "$(outdated "$@")" ]; then
+        need_rt
+        mkdir -p target && { command exec 9>target/lock; } 2>/dev/null || fail "nothing can be written into $root/target"
+        flock -n 9 || await flock 9
+        renew $(outdated "$@")
+        exec 9>&-
+    fi
+    cd "$here" || exit 2
+}
+
+# CRATE...
+renew() {
+    [ $# -gt 0 ] || return 0
+    prove "$@"
+    case " $* " in
     *' board '*) archive ;;
     esac
-    for crate in $old; do
+    for crate in "$@"; do
         touch "$(made_of "$crate")"
     done
-)
+}
 
 need_rt() {
     command -v rt >/dev/null 2>&1 || fail "no rt on this machine: the Rattle toolchain is needed"
@@ -96,14 +107,14 @@ need_rt() {
 
 # What support and a C host need where there is no toolchain, in one folder that can be copied anywhere.
 build() {
-    provide $programs board || exit 1
+    provide $programs board
     mkdir -p build/help build/tools build/samples &&
-        cp cablesound release/* include/cablesound.h tests/host/recording.c build/ &&
-        cp target/staticlib/libboard.a build/libcablesound.a &&
-        (cd target/bin && cp $programs ../../build/) &&
-        (cd help && cp $commands help ../build/help/) &&
-        cp tools/plot.gnuplot tools/points.awk build/tools/ &&
-        cp samples/sortie.macm build/samples/ || fail "nothing can be put into build/"
+        cp -f cablesound release/* include/cablesound.h tests/host/recording.c build/ &&
+        cp -f target/staticlib/libboard.a build/libcablesound.a &&
+        (cd target/bin && cp -f $programs ../../build/) &&
+        (cd help && cp -f $commands help ../build/help/) &&
+        cp -f tools/plot.gnuplot tools/points.awk build/tools/ &&
+        cp -f samples/sortie.macm build/samples/ || fail "nothing can be put into build/"
     say "build/ is a release: build/README.md says what is in it"
 }
 
@@ -112,7 +123,7 @@ fuzz() {
     case ${1:-} in
     '' | *[!0-9]*) fail "fuzz needs a number of seconds" ;;
     esac
-    provide board || exit 1
+    provide board
     cd tests && cargo run --offline --locked --quiet --bin fuzz -- "$@"
 }
 
@@ -135,7 +146,6 @@ bench() {
 # The gate. rt's own tally is held back until everything else has passed, so that it is the very last line.
 gate() {
     need_rt
-    make_room
     rt fmt --check || fail "a file is not in the layout: run 'rt fmt'"
     {
         rt ci 2>&1
@@ -151,11 +161,12 @@ gate() {
 
 # COMMAND [WORD...]
 project() {
-    cd "$root" || exit 2
+    cd "$root" && exec </dev/null || exit 2
+    make_room
     case $1 in
-    test) gate </dev/null ;;
-    build) build </dev/null ;;
-    bench) bench </dev/null ;;
+    test) gate ;;
+    build) build ;;
+    bench) bench ;;
     fuzz)
         shift
         fuzz "$@"
