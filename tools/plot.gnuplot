@@ -1,6 +1,8 @@
 # Range, rate and C/N0 of each satellite and the gap bytes before each message, over time: gnuplot -c plot.gnuplot FOLDER NAME.
 # FOLDER has what points.awk makes of the recording NAME, and gets the picture.
-points = ARG1.'/points'
+range = ARG1.'/range'
+rate = ARG1.'/rate'
+cn0 = ARG1.'/cn0'
 gaps = ARG1.'/gaps'
 load ARG1.'/facts'
 satellites = words(names)
@@ -37,14 +39,14 @@ set grid
 unset key
 
 set title 'Range, km'
-plot points using 2:3:(shape($1)):(colour($1)) with points pointtype variable linecolor rgb variable pointsize 0.5
+plot range using 2:3:(shape($1)):(colour($1)) with points pointtype variable linecolor rgb variable pointsize 0.5
 unset label
 
 set title 'Rate, Hz'
-plot points using 2:4:(shape($1)):(colour($1)) with points pointtype variable linecolor rgb variable pointsize 0.5
+plot rate using 2:3:(shape($1)):(colour($1)) with points pointtype variable linecolor rgb variable pointsize 0.5
 
 set title 'C/N0, dB-Hz'
-plot points using 2:($5 + aside($1)):(shape($1)):(colour($1)) with points pointtype variable linecolor rgb variable pointsize 0.5
+plot cn0 using 2:($3 + aside($1)):(shape($1)):(colour($1)) with points pointtype variable linecolor rgb variable pointsize 0.5
 
 set title sprintf('Gap bytes before each message: %d in all, %d of them behind the last message', gap_bytes, behind_bytes)
 set xlabel 'time of week, s'
