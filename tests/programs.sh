@@ -53,6 +53,15 @@ for _ in 1 2 3 4 5 6 7 8; do cat samples/sortie.macm; done >target/long.macm
 shell_says 0 '' './cablesound rows target/long.macm | head -n 1'
 shell_says 0 '' 'trap "" PIPE; ./cablesound rows target/long.macm | head -n 1'
 
+# COMMAND...: whether it succeeds within some seconds
+soon() {
+    for _ in 1 2 3 4 5 6 7 8 9 10 11 12 13 14 15 16 17 18 19 20; do
+        "$@" && return
+        sleep 0.2
+    done
+    return 1
+}
+
 # A live line: what has come is printed while the line is open, and the program ends with the command that runs it.
 rm -f target/line && mkfifo target/line || exit 2
 ./cablesound rows <target/line >target/line.rows &
@@ -60,11 +69,7 @@ live=$!
 exec 7>target/line
 head -c 5000 samples/sortie.macm >&7
 awk 'NR == 1 || $1 + 112 <= 5000' samples/sortie.rows >target/due.rows
-for _ in 1 2 3 4 5 6 7 8 9 10; do
-    cmp -s target/line.rows target/due.rows && break
-    sleep 0.5
-done
-cmp target/line.rows target/due.rows || fail "rows keeps lines back while the line is open"
+soon cmp -s target/line.rows target/due.rows || fail "rows keeps lines back while the line is open"
 kill "$live" && wait "$live" 2>/dev/null
 [ $? -eq 143 ] || fail "rows does not end by the signal that it is sent"
 (head -c 200000 /dev/zero >&7) 2>/dev/null && fail "the program goes on where the command has ended"
@@ -117,5 +122,13 @@ says 1 'cablesound: this picture cannot be written: none/none.png' "$root/cables
 says 1 'cablesound: this is a folder: .' "$root/cablesound" plot -sortie.macm .
 says 1 "cablesound: the picture would take the recording's place: ./-sortie.macm" "$root/cablesound" plot -sortie.macm ./-sortie.macm
 says 1 'cablesound: plot needs a recording and a picture: ./cablesound plot FILE OUT.png' "$root/cablesound" plot -sortie.macm
+"$root/cablesound" plot ../line live.png 2>/dev/null &
+live=$!
+exec 7>../line
+sleep 0.3
+kill "$live" && wait "$live" 2>/dev/null
+[ $? -eq 143 ] || fail "plot does not end by the signal that it is sent"
+(head -c 200000 /dev/zero >&7) 2>/dev/null && fail "plot reads on where the command has ended"
+exec 7>&-
 cd "$root" || exit 2
 echo "programs: list and rows print what the second reader prints, also on a live line, and say what they cannot read"
