@@ -53,15 +53,6 @@ for _ in 1 2 3 4 5 6 7 8; do cat samples/sortie.macm; done >target/long.macm
 shell_says 0 '' './cablesound rows target/long.macm | head -n 1'
 shell_says 0 '' 'trap "" PIPE; ./cablesound rows target/long.macm | head -n 1'
 
-# COMMAND...: whether it succeeds within some seconds
-soon() {
-    for _ in 1 2 3 4 5 6 7 8 9 10 11 12 13 14 15 16 17 18 19 20; do
-        "$@" && return
-        sleep 0.2
-    done
-    return 1
-}
-
 # A live line: what has come is printed while the line is open, and the program ends with the command that runs it.
 rm -f target/line && mkfifo target/line || exit 2
 ./cablesound rows <target/line >target/line.rows &
@@ -69,7 +60,7 @@ live=$!
 exec 7>target/line
 head -c 5000 samples/sortie.macm >&7
 awk 'NR == 1 || $1 + 112 <= 5000' samples/sortie.rows >target/due.rows
-soon cmp -s target/line.rows target/due.rows || fail "rows keeps lines back while the line is open"
+"$root/tests/soon" cmp -s target/line.rows target/due.rows || fail "rows keeps lines back while the line is open"
 kill "$live" && wait "$live" 2>/dev/null
 [ $? -eq 143 ] || fail "rows does not end by the signal that it is sent"
 (head -c 200000 /dev/zero >&7) 2>/dev/null && fail "the program goes on where the command has ended"

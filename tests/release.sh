@@ -68,11 +68,7 @@ printf '#!/bin/sh\necho "error: early" >&2\ncat >/dev/null\n' >"$release/rows"
 mkfifo line || exit 2
 "$release/cablesound" rows <line 2>said.txt &
 exec 7>line
-for _ in 1 2 3 4 5 6 7 8 9 10; do
-    [ "$(cat said.txt)" = 'error: early' ] && break
-    sleep 0.5
-done
-[ "$(cat said.txt)" = 'error: early' ] || fail "a line on standard error is kept back"
+"$root/tests/soon" grep -qx 'error: early' said.txt || fail "a line on standard error is kept back"
 exec 7>&-
 wait $! && fail "an early error is forgotten"
 echo "release: build/ works in another folder without rt; lines that begin with 'error: ' make status 1"

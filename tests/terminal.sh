@@ -12,15 +12,6 @@ command -v script >/dev/null 2>&1 || fail "no script on this machine: on Debian 
 work=$(mktemp -d) || exit 2
 trap 'rm -rf "$work"' EXIT
 
-# COMMAND...: whether it succeeds within some seconds
-soon() {
-    for _ in 1 2 3 4 5 6 7 8 9 10 11 12 13 14 15 16 17 18 19 20; do
-        "$@" && return
-        sleep 0.2
-    done
-    return 1
-}
-
 # COMMAND: what appears on a terminal on which it runs, a line for each piece that is written over
 terminal() { script -qec "$1" /dev/null </dev/null | tr -d '\n' | tr '\r' '\n' | sed 's/ *$//' | grep -v '^$'; }
 
@@ -86,10 +77,10 @@ wait $! || fail "one of two uses fails: $(cat one)"
 touch slow && rm -r target
 ./cablesound list </dev/null >printed 2>&1 &
 use=$!
-soon test -s prover || fail "the first use does not start rt"
+"$root/tests/soon" test -s prover || fail "the first use does not start rt"
 kill "$use" && wait "$use" 2>/dev/null
 [ $? -eq 143 ] || fail "the first use does not end by the signal that it is sent"
-soon sh -c '! kill -0 "$(cat prover)" 2>/dev/null' || fail "a prover outlives the first use"
+"$root/tests/soon" sh -c '! kill -0 "$(cat prover)" 2>/dev/null' || fail "a prover outlives the first use"
 
 for crate in $(sed 's/#.*//; s/:.*//' "$root/crates.txt"); do
     grep -q "^rt: $crate proved (" "$root/target/log/$crate.out" || fail "rt says of $crate: $(tail -n 1 "$root/target/log/$crate.out")"
