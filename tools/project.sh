@@ -42,8 +42,24 @@ announce() {
     if [ -t 2 ]; then show "$1"; else say "$1"; fi
 }
 
-# CRATE...: says which of these is being proved, the first of which rt has printed nothing yet, and keeps what it prints.
+# READER COMMAND...: what the command prints goes through the reader; answers how the command ended. It has a process group of its own, so that no prover
+# outlives this run.
+through() {
+    reader=$1
+    shift
+    rm -f "$work/printed"
+    mkfifo "$work/printed" || fail "no pipe can be made in $work"
+    "$reader" <"$work/printed" &
+    reading=$!
+    await setsid "$@" >"$work/printed" 2>&1
+    status=$?
+    wait "$reading"
+    return "$status"
+}
+
+# Says which crate of the plan is being proved, the first of which rt has printed nothing yet, and keeps what rt prints.
 announce_proofs() {
+    set -- $plan
     count=$#
     announce "proving $1, 1 of $count"
     while IFS= read -r line; do
@@ -55,18 +71,13 @@ announce_proofs() {
             ;;
         esac
     done >target/check.log
+    [ ! -t 2 ] || unshow
 }
 
-# CRATE...: proves them and all that they rest on. rt has a process group of its own, so that none of its provers outlives this run.
+# CRATE...: proves them and all that they rest on.
 prove() {
-    mkfifo "$work/proved" || fail "no pipe can be made in $work"
-    announce_proofs $(resting_on "$@") <"$work/proved" &
-    announcing=$!
-    await setsid rt check "$@" >"$work/proved" 2>&1
-    status=$?
-    wait "$announcing"
-    [ ! -t 2 ] || unshow
-    [ "$status" -eq 0 ] || fail "not proved: $*: see target/check.log"
+    plan=$(resting_on "$@")
+    through announce_proofs rt check "$@" || fail "not proved: $*: see target/check.log"
 }
 
 archive() {
@@ -124,7 +135,7 @@ fuzz() {
     '' | *[!0-9]*) fail "fuzz needs a number of seconds" ;;
     esac
     provide board
-    cd tests && cargo run --offline --locked --quiet --bin fuzz -- "$@"
+    cd tests && await setsid cargo run --offline --locked --quiet --bin fuzz -- "$@"
 }
 
 # NAME FILE...: a program of bench/.
@@ -140,21 +151,20 @@ bench() {
     mkdir -p target/bench || exit 2
     compile listing bench/listing.c bench/reader.c
     compile bench bench/bench.c bench/process.c bench/reader.c bench/streams.c build/libcablesound.a
-    target/bench/bench target/bench target/bin/listing
+    await setsid target/bench/bench target/bench target/bin/listing
 }
+
+# Keeps what rt prints, and its tally back.
+hold_tally() { tee "$work/log" | grep --line-buffered -Ev '^[0-9]+ passed, [0-9]+ failed$'; }
 
 # The gate. rt's own tally is held back until everything else has passed, so that it is the very last line.
 gate() {
     need_rt
     rt fmt --check || fail "a file is not in the layout: run 'rt fmt'"
-    {
-        rt ci 2>&1
-        echo $? >"$work/status"
-    } | tee "$work/log" | grep --line-buffered -Ev '^[0-9]+ passed, [0-9]+ failed$'
-    [ "$(cat "$work/status")" -eq 0 ] || fail "rt ci failed: $(tail -n 1 "$work/log")"
+    through hold_tally rt ci || fail "rt ci failed: $(tail -n 1 "$work/log")"
     archive
     for test in tests/*.sh; do
-        sh "$test" || fail "$test failed"
+        await setsid sh "$test" || fail "$test failed"
     done
     tail -n 1 "$work/log"
 }
