@@ -9,7 +9,6 @@ fail() {
     echo "programs: FAILED: $*"
     exit 1
 }
-
 . tests/says
 
 sh samples/make.sh check || fail "a stored output is another"
