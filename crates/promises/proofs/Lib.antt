@@ -4,7 +4,6 @@ pub mod DemandThree
 pub mod WrongPrograms
 pub mod Numbers
 pub mod Unchanged
-pub mod Residue
 pub mod OneByte
 pub mod ObservationBack
 pub mod Blocks
