@@ -6,7 +6,7 @@ use mathlib.Core.List.{List, [], _∷_}
 use native.Mathlib.Nat.{add-zero, add-suc, suc-add}
 use native.Mathlib.Omega.{arith}
 use lib.ListN.{length, take, drop, length-drop}
-use lib.Seq.{length-take-le, take-all}
+use lib.Seq.{length-take-le, take-all, drop-drop}
 use lib.Dec.{ltb, leb}
 use borrow.Author.Tests.{le-ltb, lt-ltb, ltb-false, leb-true}
 use Rattle.refusal.specs.declared.Refusal.the-variants.{PastEnd}
@@ -29,6 +29,7 @@ use Rattle.division.proofs.DivideSteps.{divide-nil, divide-gap, divide-
 pub record Passed (xs : List ℕ) (at k n : ℕ) : Type 0 where
   pub ahead : ℕ
   pub counted : k ≡ at + ahead
+  pub some : 0 < n
   pub within : ahead + n ≤ length xs
   pub is : (g : ℕ) → divide xs g ≡ part (g + ahead) (take n (drop ahead xs)) (divide (drop n (drop ahead xs)) 0)
 
@@ -44,6 +45,7 @@ one-more x xs at e (Message k n t) h =
     record {
       ahead = suc (h .ahead);
       counted = omega (arith, h .counted);
+      some = h .some;
       within = omega (arith, h .within);
       is = λ g. divide-gap x xs g e ∙ h .is (suc g) ∙ ap (λ i. part i m d) (suc-add g (h .ahead) ∙ sym (add-suc g (h .ahead)));
     }
@@ -68,11 +70,20 @@ walk-ends (x ∷ xs) at t = go (claim (x ∷ xs)) refl (claim-fact (x ∷ xs)) (
             record {
               ahead = 0;
               counted = omega arith;
+              some = omega (arith, h .0);
               within = omega (arith, leb-true n (length (x ∷ xs)) q);
               is = λ g. divide-message x xs g n (rw (p, q, r)) (omega (arith, h .0)) ∙ ap (λ i. part i (take n (x ∷ xs)) (divide (drop n (x ∷ xs)) 0)) (sym (add-zero g));
             }
         test true q false r = on (rw (p, q, r)) (further t (at + n)) ih
         test false q a r = on (rw (p, q)) t ih
+
+-- in the positions of the whole slice
+pub passed-is : (s : List ℕ) (start k n : ℕ) → Passed (drop start s) 0 k n → divide (drop start s) 0 ≡ part k (take n (drop (start + k) s)) (divide (drop (start + k + n) s) 0)
+passed-is s start k n f =
+    let z : f .ahead ≡ k = omega (arith, f .counted) in
+    let a : drop (f .ahead) (drop start s) ≡ drop (start + k) s = drop-drop (f .ahead) start s ∙ ap (λ i. drop (start + i) s) z in
+    let b : drop n (drop (f .ahead) (drop start s)) ≡ drop (start + k + n) s = ap (drop n) a ∙ drop-drop n (start + k) s in
+    f .is 0 ∙ ap₂ (λ i r. part i (take n r) (divide (drop n r) 0)) (sym (f .counted)) a ∙ ap (λ r. part k (take n (drop (start + k) s)) (divide r 0)) (sym (ap (drop n) a) ∙ b)
 
 -- ---- so the plain reader's answer is the walk's
 module _ (s : List ℕ) (start : ℕ) where

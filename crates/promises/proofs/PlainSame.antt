@@ -1,17 +1,16 @@
 -- The plain reader, started at 0 and then at each message's end, gives the messages, gaps and end of the division, and is never refused.
 -- Assumes nothing.
 use Prim.Native.Nat.{ℕ, zero, suc, _+_, _≤_, _<_}
-use mathlib.Core.Path.{_≡_, sym, ap, ap₂, _∙_}
+use mathlib.Core.Path.{_≡_, sym, ap, _∙_}
 use mathlib.Core.Bool.{true}
 use mathlib.Core.List.{List}
 use native.Mathlib.Omega.{arith}
 use lib.ListN.{length, take, drop, length-drop}
-use lib.Seq.{drop-drop}
 use Rattle.division.specs.declared.Walked.{Walked}
 use Rattle.division.specs.declared.Walked.the-variants.{Message, Unsettled}
-use Rattle.division.specs.Division.{part, divide}
+use Rattle.division.specs.Division.{divide}
 use Rattle.division.specs.Walk.{walkOf}
-use Rattle.division.proofs.PlainSteps.{Ends, walk-ends, next-given, next-end}
+use Rattle.division.proofs.PlainSteps.{Ends, walk-ends, passed-is, next-given, next-end}
 use Rattle.promises.specs.Run.{ended, gave, asRun, count, readOn, readPlain}
 
 -- ---- and its calls, one after the other, are the division
@@ -24,11 +23,7 @@ module _ (s : List ℕ) where
       go : (w : Walked) → Ends (drop start s) 0 w → ((start : ℕ) → start ≤ length s → count (divide (drop start s) 0) < c → readPlain c s start ≡ asRun (divide (drop start s) 0))
           → readPlain (suc c) s start ≡ asRun (divide (drop start s) 0)
       go (Message k n t) f ih =
-          let z : f .ahead ≡ k = omega (arith, f .counted) in
-          let a : drop (f .ahead) (drop start s) ≡ drop (start + k) s = drop-drop (f .ahead) start s ∙ ap (λ i. drop (start + i) s) z in
-          let b : drop n (drop (f .ahead) (drop start s)) ≡ drop (start + k + n) s = ap (drop n) a ∙ drop-drop n (start + k) s in
-          let d : divide (drop start s) 0 ≡ part k (take n (drop (start + k) s)) (divide (drop (start + k + n) s) 0) =
-          f .is 0 ∙ ap₂ (λ i r. part i (take n r) (divide (drop n r) 0)) (sym (f .counted)) a ∙ ap (λ r. part k (take n (drop (start + k) s)) (divide r 0)) (sym (ap (drop n) a) ∙ b) in
+          let d = passed-is s start k n f in
           let q : count (divide (drop (start + k + n) s) 0) < c = omega (arith, ap count d) in
           ap (readOn s (readPlain c s)) (sym (next-given s start l k n f))
           ∙ ap (gave k (take n (drop (start + k) s))) (ih (start + k + n) (omega (arith, f .within, length-drop start s)) q) ∙ ap asRun (sym d)
