@@ -1,0 +1,3 @@
+pub mod HereSteps
+pub mod CoverSteps
+pub mod Determined
