@@ -3,26 +3,13 @@ use Prim.Native.Nat.{ℕ}
 use mathlib.Core.List.{List, [], _∷_, _++_}
 use lib.ListN.{length}
 use Rattle.text.specs.Word.{word}
-use Rattle.text.specs.Digits.{decimal}
+use Rattle.text.specs.Columns.{space, newline, numberText, countText}
 use Rattle.macm.specs.Read.{readOf}
 use Rattle.macm.specs.declared.Form.{Form}
 use Rattle.macm.specs.declared.Form.the-variants.{New, Old}
 use Rattle.macm.specs.declared.Header.{Header}
 use Rattle.macm.specs.declared.Reading.{Reading}
 use Rattle.macm.specs.declared.Reading.the-variants.{Refused, HeaderOnly, Observed}
-
--- the byte behind a column, and behind a line
-abbrev pub space : ℕ
-space = 32
-
-abbrev pub newline : ℕ
-newline = 10
-
-abbrev pub numberText : ℕ → ℕ → List ℕ
-numberText n behind = decimal n ++ (behind ∷ [])
-
-abbrev pub countText : List ℕ → ℕ → ℕ → List ℕ
-countText before n behind = before ++ numberText n behind
 
 abbrev pub formText : Form → List ℕ
 formText (New signal tfom) = word "v2 "

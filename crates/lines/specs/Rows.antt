@@ -2,6 +2,7 @@
 use Prim.Native.Nat.{ℕ, zero, suc}
 use mathlib.Core.List.{List, [], _∷_, _++_}
 use Rattle.text.specs.Word.{word}
+use Rattle.text.specs.Columns.{space, newline, numberText, countText}
 use Rattle.text.specs.Digits.{digits, metres, hertz}
 use Rattle.text.specs.Double.{nonfinite, cycles}
 use Rattle.units.specs.Units.{lockMillis, millisIn}
@@ -22,7 +23,7 @@ use Rattle.track.specs.declared.Condition.the-variants.{Flagged, MakerDefined}
 use Rattle.track.specs.Range.{rangeOf}
 use Rattle.track.specs.Condition.{conditionOf}
 use Rattle.track.specs.Shown.{phaseOf}
-use Rattle.lines.specs.Listing.{space, newline, numberText, countText, formText}
+use Rattle.lines.specs.Listing.{formText}
 
 -- the form, and TYPE, which the old form does not have
 abbrev pub signalText : Form → List ℕ

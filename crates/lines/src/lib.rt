@@ -8,26 +8,10 @@ use track::Condition;
 use track::Phase;
 use track::Polarity;
 ghost use Rattle.text.specs.Put.{Puts};
-ghost use Rattle.lines.specs.Listing.{numberText, countText, formText, messageText, lineText, endText};
+ghost use Rattle.lines.specs.Listing.{formText, messageText, lineText, endText};
 ghost use Rattle.lines.specs.Rows.{headText, rangeText, phaseText, conditionText, shownText, observationText, rowsText};
 
 // ---- the listing
-
-// A number and the byte behind it.
-fn put_number(out: &mut [u8], at: usize, n: u64, behind: u8) -> usize
-    ensures { λ r. ⌜ Puts (now (out .entry)) at (numberText n behind) r (now (out .exit)) ⌝ }
-{
-    let next = text::put_decimal(out, at, n);
-    text::put(out, next, behind)
-}
-
-// A word, a number and the byte behind it.
-fn put_count(out: &mut [u8], at: usize, word: &[u8], n: u64, behind: u8) -> usize
-    ensures { λ r. ⌜ Puts (now (out .entry)) at (countText (now (word .entry)) n behind) r (now (out .exit)) ⌝ }
-{
-    let next = text::put_all(out, at, word);
-    put_number(out, next, n, behind)
-}
 
 fn put_form(out: &mut [u8], at: usize, form: Form) -> usize
     ensures { λ r. ⌜ Puts (now (out .entry)) at (formText form) r (now (out .exit)) ⌝ }
@@ -43,11 +27,11 @@ fn put_read(out: &mut [u8], at: usize, position: u64, bytes: u64, head: Header, 
     ensures { λ r. ⌜ Puts (now (out .entry)) at (messageText position bytes head count) r (now (out .exit)) ⌝ }
 {
     let form = head.form;
-    let next = put_number(out, at, position, b' ');
-    let next = put_number(out, next, bytes, b' ');
+    let next = text::put_number(out, at, position, b' ');
+    let next = text::put_number(out, next, bytes, b' ');
     let next = put_form(out, next, form);
-    let next = put_number(out, next, count as u64, b' ');
-    put_number(out, next, head.time as u64, b'\n')
+    let next = text::put_number(out, next, count as u64, b' ');
+    text::put_number(out, next, head.time as u64, b'\n')
 }
 
 // The line of a message at a position: none where reading it is refused.
@@ -66,9 +50,9 @@ pub fn put_line(out: &mut [u8], at: usize, position: u64, message: &[u8]) -> usi
 pub fn put_end(out: &mut [u8], at: usize, bytes: u64, messages: u64, gap: u64) -> usize
     ensures { λ r. ⌜ Puts (now (out .entry)) at (endText bytes messages gap) r (now (out .exit)) ⌝ }
 {
-    let next = put_count(out, at, b"end ", bytes, b' ');
-    let next = put_count(out, next, b"messages ", messages, b' ');
-    put_count(out, next, b"gap ", gap, b'\n')
+    let next = text::put_count(out, at, b"end ", bytes, b' ');
+    let next = text::put_count(out, next, b"messages ", messages, b' ');
+    text::put_count(out, next, b"gap ", gap, b'\n')
 }
 
 // ---- an observation's row
@@ -78,10 +62,10 @@ fn put_head(out: &mut [u8], at: usize, position: u64, header: Header) -> usize
     ensures { λ r. ⌜ Puts (now (out .entry)) at (headText position header) r (now (out .exit)) ⌝ }
 {
     let form = header.form;
-    let next = put_number(out, at, position, b' ');
-    let next = put_number(out, next, header.time as u64, b' ');
+    let next = text::put_number(out, at, position, b' ');
+    let next = text::put_number(out, next, header.time as u64, b' ');
     match form {
-        Form::New { signal, tfom: _ } => put_count(out, next, b"v2 ", signal as u64, b' '),
+        Form::New { signal, tfom: _ } => text::put_count(out, next, b"v2 ", signal as u64, b' '),
         Form::Old { version: _ } => text::put_all(out, next, b"v1 - "),
     }
 }
@@ -90,8 +74,8 @@ fn put_head(out: &mut [u8], at: usize, position: u64, header: Header) -> usize
 fn put_range(out: &mut [u8], at: usize, observation: Observation) -> usize
     ensures { λ r. ⌜ Puts (now (out .entry)) at (rangeText observation) r (now (out .exit)) ⌝ }
 {
-    let next = put_number(out, at, observation.sid as u64, b' ');
-    let next = put_number(out, next, observation.cn0 as u64, b' ');
+    let next = text::put_number(out, at, observation.sid as u64, b' ');
+    let next = text::put_number(out, next, observation.cn0 as u64, b' ');
     let next = text::put_hex(out, next, observation.condition as u64, 4);
     let next = text::put(out, next, b' ');
     let next = text::put_metres(out, next, track::range_of(observation.pseudorange));
@@ -121,7 +105,7 @@ fn put_polarity(out: &mut [u8], at: usize, condition: Condition) -> usize
         Polarity::NotKnown => text::put_all(out, at, b"unknown "),
         Polarity::NotCorrected => text::put_all(out, at, b"uncorrected "),
         Polarity::NeedsHalfCycle => text::put_all(out, at, b"half "),
-        Polarity::Undefined(code) => put_count(out, at, b"undefined", code as u64, b' '),
+        Polarity::Undefined(code) => text::put_count(out, at, b"undefined", code as u64, b' '),
     }
 }
 
@@ -148,7 +132,7 @@ fn put_row(out: &mut [u8], at: usize, position: u64, head: Header, observed: Obs
     let next = put_shown(out, next, form, observed);
     let next = text::put_hertz(out, next, observed.rate);
     let next = text::put(out, next, b' ');
-    put_number(out, next, units::since_lock(lock).number(), b'\n')
+    text::put_number(out, next, units::since_lock(lock).number(), b'\n')
 }
 
 // The rows of all observations of the message at a position: a message has 255 at most.

@@ -18,6 +18,12 @@ put-decimal-determined κs a z z′ w w′ p q = search both
 pub put-hex-determined : Determined text.put_hex.ended text.put_hex.Reads.Learnt
 put-hex-determined κs a z z′ w w′ p q = search both
 
+pub put-number-determined : Determined text.put_number.ended text.put_number.Reads.Learnt
+put-number-determined κs a z z′ w w′ p q = search both
+
+pub put-count-determined : Determined text.put_count.ended text.put_count.Reads.Learnt
+put-count-determined κs a z z′ w w′ p q = search both
+
 pub put-metres-determined : Determined text.put_metres.ended text.put_metres.Reads.Learnt
 put-metres-determined κs a z z′ w w′ p q = search both
 

@@ -5,6 +5,7 @@ ghost use mathlib.Core.List.{_∷_, []};
 ghost use Prim.Native.Nat.{_<_, _≤_};
 ghost use denote.Ref.{ptr};
 ghost use lib.ListN.{length, take};
+ghost use Rattle.text.specs.Columns.{numberText, countText};
 ghost use Rattle.text.specs.Digits.{digitOf, digits, needed, decimal, fixed, metres, hertz};
 ghost use Rattle.text.specs.Double.{exponentOf, thousandths, cycles};
 ghost use Rattle.text.specs.Put.{written, Puts};
@@ -117,6 +118,24 @@ pub fn put_hex(out: &mut [u8], at: usize, n: u64, width: u8) -> usize
     ensures { λ r. ⌜ Puts (now (out .entry)) at (digits 16 width n) r (now (out .exit)) ⌝ }
 {
     put_digits(out, at, n, 16, width as usize)
+}
+
+// ---- columns
+
+// A number and the byte behind it.
+pub fn put_number(out: &mut [u8], at: usize, n: u64, behind: u8) -> usize
+    ensures { λ r. ⌜ Puts (now (out .entry)) at (numberText n behind) r (now (out .exit)) ⌝ }
+{
+    let next = put_decimal(out, at, n);
+    put(out, next, behind)
+}
+
+// A word, a number and the byte behind it.
+pub fn put_count(out: &mut [u8], at: usize, word: &[u8], n: u64, behind: u8) -> usize
+    ensures { λ r. ⌜ Puts (now (out .entry)) at (countText (now (word .entry)) n behind) r (now (out .exit)) ⌝ }
+{
+    let next = put_all(out, at, word);
+    put_number(out, next, n, behind)
 }
 
 // ---- decimals

@@ -1,8 +1,8 @@
--- `lines::put_count` meets its contract. Assumes nothing.
+-- `text::put_count` meets its contract. Assumes nothing.
 use borrow.Author.Needs.{needs}
-use Rattle.lines.proofs.put_count.Statement.{statement}
-use Rattle.lines.proofs.put_count.Tie as tie
+use Rattle.text.proofs.put_count.Statement.{statement}
+use Rattle.text.proofs.put_count.Tie as tie
 use Rattle.text.proofs.PutLaws.{puts-join}
 
 put-all-requires : tie.Need-put-all-requires
 put-all-requires c κs = search needs
