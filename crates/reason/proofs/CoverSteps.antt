@@ -17,9 +17,10 @@ use Rattle.division.specs.declared.Next.{Next}
 use Rattle.division.specs.declared.Next.the-variants.{Refused as NotFound, Message as Found, End as NoneLeft}
 use Rattle.division.specs.declared.Walked.{Walked}
 use Rattle.division.specs.declared.Walked.the-variants.{Message, Unsettled}
-use Rattle.division.specs.Division.{Division, last, part, divide}
+use Rattle.division.specs.Division.{Division, last, part, stands, divide}
 use Rattle.division.specs.Walk.{walkOf}
 use Rattle.division.specs.Plain.{nextOf}
+use Rattle.division.proofs.DivideSteps.{divide-gap, divide-message}
 use Rattle.division.proofs.PlainSteps.{Ends, walk-ends, passed-is, next-given, next-end}
 use Rattle.reason.specs.declared.Reason.{Reason}
 use Rattle.reason.specs.declared.Reason.the-variants.{Refused, Inside}
@@ -35,7 +36,34 @@ cover-before (part g m d) at p l = rw (le-ltb (at + g) p (omega arith), cover-be
     go true = refl
     go false = refl
 
--- what the plain reader's answer from a start on says of it
+-- ---- from one position that no message covers to the next
+module _ (at p x : ℕ) (xs : List ℕ) where
+  -- a gap byte covers nothing
+  pub cover-gap : stands (x ∷ xs) ≡ 0 → coverIn (divide (x ∷ xs) 0) at p ≡ coverIn (divide xs 0) (suc at) p
+  unfolding coverIn
+  cover-gap e = ap (λ d. coverIn d at p) (divide-gap x xs 0 e) ∙ go (walkOf true xs 0 0) (walk-ends xs 0 0)
+    where
+      go : (w : Walked) → Ends xs 0 w → coverIn (divide xs 1) at p ≡ coverIn (divide xs 0) (suc at) p
+      go (Message k n t) f =
+          let z : at + (1 + f .ahead) ≡ suc at + (0 + f .ahead) = omega arith in
+          rw (f .is 1, f .is 0, z)
+      go (Unsettled k) f = rw (f .1 1, f .1 0)
+
+  -- a message covers what lies behind its first byte up to its end
+  module _ (n : ℕ) (e : stands (x ∷ xs) ≡ n) (some : 0 < n) (here : n ≤ length (x ∷ xs)) where
+    cover-message : coverIn (divide (x ∷ xs) 0) at p ≡ cond (ltb p (at + n)) (cond (ltb at p) at p) (coverIn (divide (drop n (x ∷ xs)) 0) (at + n) p)
+    unfolding coverIn
+    cover-message =
+        let z : at + 0 ≡ at = omega arith in
+        rw (divide-message x xs 0 n e some, length-take-le n (x ∷ xs) here, z)
+
+    pub cover-in : at < p → p < at + n → coverIn (divide (x ∷ xs) 0) at p ≡ at
+    cover-in l k = cover-message ∙ rw (lt-ltb p (at + n) k, lt-ltb at p l)
+
+    pub cover-behind : at + n ≤ p → coverIn (divide (x ∷ xs) 0) at p ≡ coverIn (divide (drop n (x ∷ xs)) 0) (at + n) p
+    cover-behind l = cover-message ∙ rw (le-ltb p (at + n) l)
+
+-- ---- what the plain reader's answer from a start on says of it
 pub record Onward (s : List ℕ) (at p q n : ℕ) : Type 0 where
   pub from : at ≤ q
   pub some : 0 < n

@@ -1,3 +1,4 @@
 pub mod HereSteps
+pub mod HereStands
 pub mod CoverSteps
 pub mod Determined
