@@ -1,14 +1,17 @@
-//! The second reader: document 01's rules once more, over vectors and slices, as the measure for the library behind the C boundary.
+//! The second reader: the rules of document 01 and of the requests since once more, over vectors and slices, as the measure for the library behind the
+//! C boundary.
 //! Nothing here is fast or careful with memory: each function follows the document's sentence and no more.
 
 mod division;
 mod message;
 mod numbers;
+mod reason;
 mod stream;
 
 pub use division::{divide, message_at, next, Division, Found, Given};
 pub use message::{check, checksum, read, set, start, to_new, to_old, Form, Header, Message, Observation, Reading};
 pub use numbers::{lock_ms, phase, plot_row, range_um, Phase};
+pub use reason::{reasons, why, Reason};
 pub use stream::{feed, finish, standing, Answer, Standing, State, STREAM_BYTES};
 
 /// The length of the longest message, which is of the new form with 255 observations.

@@ -77,3 +77,95 @@ fn feeding_takes_the_fewest_bytes() {
         }
     }
 }
+
+/// The reason of each position, and 12 from the end on.
+fn all_reasons(recording: &[u8]) -> Vec<Reason> {
+    for position in [recording.len(), recording.len() + 1, usize::MAX] {
+        assert_eq!(why(recording, position), Err(12));
+    }
+    (0..recording.len()).map(|position| why(recording, position).unwrap()).collect()
+}
+
+#[test]
+fn the_reasons_of_s12() {
+    let reasons = all_reasons(&[&A[..3], &A[..]].concat());
+    assert_eq!(reasons[..4], [Reason::CutShort(1604), Reason::Sync(1), Reason::Sync(1), Reason::Given(16)]);
+    assert_eq!(reasons[4..], [Reason::Inside(3); 15]);
+    assert_eq!(all_reasons(&[]), []);
+}
+
+/// 264-04's messages as printed: their checksums leave out VERSION, which is 02.
+#[test]
+fn the_residue_of_the_published_messages() {
+    let printed = include_bytes!("../../../crates/vectors/data/264-04-table-4.bin");
+    let reasons = all_reasons(printed);
+    assert_eq!((reasons[25], reasons[253]), (Reason::Checksum(0x02), Reason::Checksum(0x02)));
+    for message in [&printed[25..184], &printed[253..412]] {
+        assert_eq!(all_reasons(message)[0], Reason::Checksum(0x02));
+    }
+    let by_the_rule = all_reasons(include_bytes!("../../../crates/vectors/data/264-04-table-4-by-the-rule.bin"));
+    assert_eq!((by_the_rule[25], by_the_rule[26], by_the_rule[183]), (Reason::Given(159), Reason::Inside(25), Reason::Inside(25)));
+}
+
+/// Every length that a message can be cut to. Its count byte is its sixth in the old form, its seventh in the new one.
+#[test]
+fn a_message_cut_short() {
+    for (message, count_place) in [(&A[..], 6), (&B[..], 5)] {
+        for length in 1..message.len() {
+            let expected = if length <= count_place { Reason::CutUnknown } else { Reason::CutShort(message.len() - length) };
+            assert_eq!(all_reasons(&message[..length])[0], expected, "{length} bytes");
+        }
+        assert_eq!(all_reasons(message)[0], Reason::Given(message.len()));
+    }
+}
+
+#[test]
+fn where_a_sync_string_breaks_off() {
+    for (recording, expected) in [
+        (&b"x"[..], Reason::Sync(1)),
+        (b"AC2", Reason::Sync(1)),
+        (b"MM", Reason::Sync(2)),
+        (b"MC", Reason::Sync(2)),
+        (b"MAMACM", Reason::Sync(3)),
+        (b"MAC3", Reason::Sync(4)),
+        (b"MACA", Reason::Sync(4)),
+        (b"M", Reason::CutUnknown),
+        (b"MA", Reason::CutUnknown),
+        (b"MAC", Reason::CutUnknown),
+    ] {
+        assert_eq!(all_reasons(recording)[0], expected, "{}", recording.escape_ascii());
+    }
+}
+
+/// The sync letters of a second start stand in the first one's VERSION and count: C is 67 observations, so 1,623 bytes.
+#[test]
+fn starts_that_overlap() {
+    for recording in [b"MACMAC2", b"MACMACM"] {
+        let reasons = all_reasons(recording);
+        assert_eq!(reasons[..4], [Reason::CutShort(1616), Reason::Sync(1), Reason::Sync(1), Reason::CutUnknown]);
+        assert_eq!(reasons[4..6], [Reason::Sync(1); 2]);
+        assert_eq!(reasons[6], if recording[6] == b'M' { Reason::CutUnknown } else { Reason::Sync(1) });
+    }
+}
+
+/// The residue takes the checksum byte in, and leaves the sync string out.
+#[test]
+fn a_damaged_byte_is_the_residue() {
+    for place in [4, 5, 7, 14, 15] {
+        let mut damaged = A;
+        damaged[place] ^= 0xA0;
+        assert_eq!(all_reasons(&damaged)[0], Reason::Checksum(0xA0), "byte {place}");
+    }
+}
+
+/// A whole message in the fields of a given one is not given; it is where the outer one is none.
+#[test]
+fn inside_comes_first() {
+    let phase = u64::from_be_bytes(*b"MACM\x02\x00\x0E\xA0");
+    let observation = Observation { phase, pseudorange: 0x0C90_407C, rate: 0x1000_1C00, ..Default::default() };
+    let message = Message { header: Header::Old { version: 2, time: 0, offset: 0 }, observations: vec![observation] }.to_bytes();
+    assert_eq!(message_at(&message, 18), Some(15));
+    let reasons = all_reasons(&message);
+    assert_eq!((reasons[0], reasons[18]), (Reason::Given(39), Reason::Inside(0)));
+    assert_eq!(all_reasons(&message[1..])[17], Reason::Given(15));
+}

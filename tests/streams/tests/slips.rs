@@ -1,7 +1,7 @@
 //! The streams are hostile enough: readers with the slips that people make are told from the right one by them. A slip that went unnoticed here would
 //! go unnoticed behind the C boundary too.
 
-use reader::{check, checksum, divide, feed, finish, Answer, Form, State, LONGEST};
+use reader::{check, checksum, divide, feed, finish, message_at, reasons, Answer, Form, Reason, State, LONGEST};
 use streams::{cuts, stream, Random};
 
 const SEED: u64 = 20_041;
@@ -163,4 +163,47 @@ fn losing_the_last_held_byte() {
         }
     };
     assert_noticed("losing a held byte", noticed(|stream, pieces| run(stream, pieces, lose)));
+}
+
+/// The number of streams in which a slip changes the reason of some position. It is told the bytes from there on and the right reason.
+fn noticed_reason(slip: fn(&[u8], Reason) -> Reason) -> usize {
+    (0..STREAMS)
+        .filter(|case| {
+            let stream = stream(&mut Random::new(SEED + case));
+            reasons(&stream).into_iter().enumerate().any(|(position, reason)| slip(&stream[position..], reason) != reason)
+        })
+        .count()
+}
+
+#[test]
+fn a_message_inside_a_given_one_as_given() {
+    let slip = |from: &[u8], reason| message_at(from, 0).map_or(reason, Reason::Given);
+    assert_noticed("given before inside", noticed_reason(slip));
+}
+
+#[test]
+fn a_start_that_the_end_breaks_off_as_a_wrong_sync() {
+    let slip = |from: &[u8], reason| if reason == Reason::CutUnknown && from.len() < 4 { Reason::Sync(from.len() + 1) } else { reason };
+    assert_noticed("MA at the end as a wrong sync", noticed_reason(slip));
+}
+
+#[test]
+fn a_missing_count_byte_as_no_missing_byte() {
+    let slip = |_: &[u8], reason| if reason == Reason::CutUnknown { Reason::CutShort(0) } else { reason };
+    assert_noticed("short by none where nobody knows", noticed_reason(slip));
+}
+
+#[test]
+fn the_bytes_that_are_missing_off_by_one() {
+    let slip = |_: &[u8], reason| if let Reason::CutShort(missing) = reason { Reason::CutShort(missing - 1) } else { reason };
+    assert_noticed("short by one less", noticed_reason(slip));
+}
+
+#[test]
+fn the_residue_without_the_checksum_byte() {
+    let slip = |from: &[u8], reason| match (reason, claim(from)) {
+        (Reason::Checksum(_), Some(length)) => Reason::Checksum(checksum(&from[4..length - 1])),
+        _ => reason,
+    };
+    assert_noticed("the residue without the checksum byte", noticed_reason(slip));
 }
