@@ -1,5 +1,5 @@
 #!/bin/sh
-# Makes what is stored of the second reader's output: the sample recording with its listing and rows, and what the programs have to print for rt.
+# Makes what is stored of the second reader's output: the sample recordings, the listing and the rows of one, and what the programs have to print for rt.
 # `samples/make.sh check` compares instead, and fails where a file differs.
 set -u
 root=$(cd "$(dirname "$0")/.." && pwd -P) || exit 2
@@ -24,5 +24,7 @@ stored samples/sortie.listing listing "$root/samples/sortie.macm"
 stored samples/sortie.rows rows "$root/samples/sortie.macm"
 stored crates/listing/stdout listing "$root/crates/listing/stdin"
 stored crates/rows/stdout rows "$root/crates/rows/stdin"
+stored crates/why/stdin every-reason
+stored crates/why/stdout why "$root/crates/why/stdin"
 stored crates/vectors/stdout vectors
 exit $failed

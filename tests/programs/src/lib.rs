@@ -3,10 +3,12 @@
 mod sample;
 mod started;
 mod vectors;
+mod why;
 
-pub use sample::recording;
-pub use started::started;
+pub use sample::{every_reason, recording};
+pub use started::{offered, printed, started};
 pub use vectors::vectors;
+pub use why::{why, why_lines, WHY_HEADING, WHY_LONGEST};
 
 use reader::{divide, lock_ms, phase, range_um, standing, Form, Header, Message, Observation, Phase, Standing};
 

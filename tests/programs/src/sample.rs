@@ -1,4 +1,5 @@
-//! A short recording to try the programs with: a minute of four satellites in both forms, with what a recorder meets besides.
+//! Recordings to try the programs with: a minute of four satellites in both forms, with what a recorder meets besides, and one for every reason why no
+//! message is given.
 
 use reader::{Header, Message, Observation};
 
@@ -57,4 +58,18 @@ pub fn recording() -> Vec<u8> {
     let cut = message(60.0).to_bytes();
     bytes.extend(&cut[..70]);
     bytes
+}
+
+/// S12, whose first position claims more bytes than there are; noise, and starts that break off at each letter; an old message as 264-04 prints them, with
+/// VERSION left out of the checksum, the same by the rule, and with a damaged byte; at the end a start whose count byte is missing.
+pub fn every_reason() -> Vec<u8> {
+    let (time, offset) = (245_370_000, 0x407C_1000);
+    let new = Message { header: Header::New { signal: 0, tfom: 0, time, offset }, observations: Vec::new() }.to_bytes();
+    let old = Message { header: Header::Old { version: 2, time, offset }, observations: Vec::new() }.to_bytes();
+    let with = |place: usize, change: u8| {
+        let mut bytes = old.clone();
+        bytes[place] ^= change;
+        bytes
+    };
+    [b"MAC", &new[..], b"\r\nMX MAX MACX", &with(14, 0x02), &old, &with(8, 0xAF), b"MACM\x02"].concat()
 }

@@ -1,29 +1,10 @@
 //! The programs print what the second reader prints, whatever the stream and however it arrives.
 
-use std::io::Write;
-
+use programs::printed;
 use streams::Random;
 
 const SEED: u64 = 2004;
 const STREAMS: usize = 150;
-
-/// What a program of target/bin prints for a stream that arrives in these pieces.
-fn printed(program: &str, stream: &[u8], pieces: &[usize]) -> String {
-    let mut child = programs::started(program);
-    let mut input = child.stdin.take().expect("standard input is a pipe");
-    let (bytes, pieces) = (stream.to_vec(), pieces.to_vec());
-    let writer = std::thread::spawn(move || {
-        let mut from = 0;
-        for piece in pieces {
-            input.write_all(&bytes[from..from + piece]).expect("the program reads to the end");
-            from += piece;
-        }
-    });
-    let output = child.wait_with_output().expect("the program ends");
-    writer.join().expect("the stream is written");
-    assert!(output.status.success(), "{program} fails");
-    String::from_utf8(output.stdout).expect("plain text")
-}
 
 #[test]
 fn listing_and_rows_of_many_streams() {

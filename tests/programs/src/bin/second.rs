@@ -1,20 +1,22 @@
-//! The second reader as a program: what `listing`, `rows` and `vectors` have to print, and the sample recording.
+//! The second reader as a program: what `listing`, `rows`, `why` and `vectors` have to print, and the sample recordings.
 
 use std::io::{self, Read, Write};
 
 fn main() -> io::Result<()> {
     let what = std::env::args().nth(1).unwrap_or_default();
     let mut stream = Vec::new();
-    if what == "listing" || what == "rows" {
+    if ["listing", "rows", "why"].contains(&what.as_str()) {
         io::stdin().read_to_end(&mut stream)?;
     }
     let printed = match what.as_str() {
         "listing" => programs::listing(&stream).into_bytes(),
         "rows" => programs::rows(&stream).into_bytes(),
+        "why" => programs::why(&stream).into_bytes(),
         "vectors" => programs::vectors().into_bytes(),
         "sample" => programs::recording(),
+        "every-reason" => programs::every_reason(),
         _ => {
-            eprintln!("second: one of listing, rows, vectors, sample");
+            eprintln!("second: one of listing, rows, why, vectors, sample, every-reason");
             std::process::exit(2);
         }
     };
