@@ -33,6 +33,21 @@ pub struct Found {
     pub gap: u64,
 }
 
+pub const INSIDE: u64 = 1;
+pub const GIVEN: u64 = 2;
+pub const SYNC: u64 = 3;
+pub const CUT_UNKNOWN: u64 = 4;
+pub const CUT_SHORT: u64 = 5;
+pub const CHECKSUM: u64 = 6;
+
+#[repr(C)]
+#[derive(Clone, Copy, Debug, Default, PartialEq)]
+pub struct Reason {
+    pub refusal: u64,
+    pub kind: u64,
+    pub value: u64,
+}
+
 pub const OLD: u64 = 1;
 pub const NEW: u64 = 2;
 
@@ -105,6 +120,7 @@ mod raw {
         pub fn cs_to_new(message: *const u8, length: usize, signal: u8, tfom: u8, output: *mut u8, output_length: usize) -> Written;
         pub fn cs_to_old(message: *const u8, length: usize, version: u8, output: *mut u8, output_length: usize) -> Written;
         pub fn cs_next(recording: *const u8, length: usize, start: usize) -> Found;
+        pub fn cs_why(recording: *const u8, length: usize, position: usize) -> Reason;
         pub fn cs_fresh() -> State;
         pub fn cs_feed(
             state: *mut State,
@@ -151,6 +167,10 @@ pub fn to_old(message: &[u8], version: u8, output: &mut [u8]) -> Written {
 
 pub fn next(recording: &[u8], start: usize) -> Found {
     unsafe { raw::cs_next(recording.as_ptr(), recording.len(), start) }
+}
+
+pub fn why(recording: &[u8], position: usize) -> Reason {
+    unsafe { raw::cs_why(recording.as_ptr(), recording.len(), position) }
 }
 
 pub fn fresh() -> State {

@@ -25,8 +25,14 @@ impl Kind {
 const NEEDS_MORE: u64 = ACCEPTED + board::NEEDS_MORE;
 const MESSAGE: u64 = ACCEPTED + board::MESSAGE;
 const END: u64 = ACCEPTED + board::END;
+const INSIDE: u64 = ACCEPTED + board::INSIDE;
+const GIVEN: u64 = ACCEPTED + board::GIVEN;
+const SYNC: u64 = ACCEPTED + board::SYNC;
+const CUT_UNKNOWN: u64 = ACCEPTED + board::CUT_UNKNOWN;
+const CUT_SHORT: u64 = ACCEPTED + board::CUT_SHORT;
+const CHECKSUM: u64 = ACCEPTED + board::CHECKSUM;
 
-pub const KINDS: [Kind; 11] = [
+pub const KINDS: [Kind; 12] = [
     Kind { name: "check", attempt: check, outcomes: &[1, 2, 3, 4, ACCEPTED] },
     Kind { name: "read", attempt: read, outcomes: &[1, 2, 3, 4, 5, ACCEPTED] },
     Kind { name: "start", attempt: start, outcomes: &[6, ACCEPTED] },
@@ -34,6 +40,7 @@ pub const KINDS: [Kind; 11] = [
     Kind { name: "to_new", attempt: to_new, outcomes: &[1, 2, 3, 4, 7, 6, ACCEPTED] },
     Kind { name: "to_old", attempt: to_old, outcomes: &[1, 2, 3, 4, 7, 6, ACCEPTED] },
     Kind { name: "next", attempt: next, outcomes: &[12, ACCEPTED] },
+    Kind { name: "why", attempt: why, outcomes: &[12, INSIDE, GIVEN, SYNC, CUT_UNKNOWN, CUT_SHORT, CHECKSUM] },
     Kind { name: "numbers", attempt: numbers, outcomes: &[ACCEPTED, ACCEPTED + 1, ACCEPTED + 2] },
     Kind { name: "feed", attempt: feed, outcomes: &[8, 9, 10, 11, NEEDS_MORE, MESSAGE] },
     Kind { name: "finish", attempt: finish, outcomes: &[8, 9, MESSAGE, END] },
@@ -154,6 +161,22 @@ fn next(random: &mut Random) -> Verdict<u64> {
     compare::recording(&stream)?;
     let start = if random.once_in(4) { random.edgy() as usize } else { random.below(stream.len() + 2) };
     compare::next(&stream, start).map(|refusal| outcome(refusal, 0))
+}
+
+/// Some positions, mostly where a sync string may begin. The last of them is the outcome.
+fn why(random: &mut Random) -> Verdict<u64> {
+    let stream = streams::stream(random);
+    let mut starts: Vec<_> = (0..stream.len()).filter(|&position| stream[position] == b'M').collect();
+    starts.push(stream.len());
+    let mut position = || match random.below(8) {
+        0 => random.edgy() as usize,
+        1 | 2 => random.below(stream.len() + 2),
+        _ => random.pick(&starts),
+    };
+    let positions = [(); 20].map(|_| position());
+    compare::reasons(&stream, positions)?;
+    let reason = board::why(&stream, positions[19]);
+    Ok(outcome(reason.refusal, reason.kind))
 }
 
 fn numbers(random: &mut Random) -> Verdict<u64> {

@@ -116,6 +116,24 @@ pub fn recording(recording: &[u8]) -> Verdict<usize> {
     Ok(division.given.len())
 }
 
+/// The reasons of these positions of a recording where it stands, against one division by the second reader.
+pub fn reasons(recording: &[u8], positions: impl IntoIterator<Item = usize>) -> Verdict<()> {
+    let reasons = reader::reasons(recording);
+    for position in positions {
+        let expected = expected::reason(reasons.get(position).copied().ok_or(12));
+        same(&format!("why at {position}"), board::why(recording, position), expected)?;
+    }
+    Ok(())
+}
+
+/// The reasons of all positions, and of some behind the end; the recording stays as it is.
+pub fn all_reasons(recording: &[u8]) -> Verdict<()> {
+    let (lent, length) = (Lent::new(recording), recording.len());
+    reasons(lent.contents(), (0..=length + 1).chain([length + 256, usize::MAX - 1, usize::MAX]))?;
+    same_bytes("why: the recording", lent.contents(), recording)?;
+    lent.margins_stand("why")
+}
+
 /// The numbers for the track people; doubles are compared by their bits. Answers the kind of the phase.
 pub fn numbers(form: u64, observation: board::Observation) -> Verdict<u64> {
     let fields = expected::observation_fields(observation);

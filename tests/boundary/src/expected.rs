@@ -60,6 +60,19 @@ pub fn found(answer: Result<reader::Found, Refusal>) -> board::Found {
     }
 }
 
+pub fn reason(answer: Result<reader::Reason, Refusal>) -> board::Reason {
+    let (kind, value) = match answer {
+        Ok(reader::Reason::Inside(start)) => (board::INSIDE, start as u64),
+        Ok(reader::Reason::Given(length)) => (board::GIVEN, length as u64),
+        Ok(reader::Reason::Sync(byte)) => (board::SYNC, byte as u64),
+        Ok(reader::Reason::CutUnknown) => (board::CUT_UNKNOWN, 0),
+        Ok(reader::Reason::CutShort(missing)) => (board::CUT_SHORT, missing as u64),
+        Ok(reader::Reason::Checksum(residue)) => (board::CHECKSUM, residue.into()),
+        Err(refusal) => return board::Reason { refusal, ..Default::default() },
+    };
+    board::Reason { refusal: 0, kind, value }
+}
+
 pub fn answer(answer: Result<reader::Answer, Refusal>) -> board::Answer {
     match answer {
         Ok(reader::Answer::NeedsMore { taken }) => board::Answer { kind: board::NEEDS_MORE, taken: taken as u64, ..Default::default() },

@@ -1,6 +1,6 @@
 //! Buffers that end, or begin, at memory nobody may touch: a call that reads or writes one byte outside of what it is lent ends the program.
 
-use boundary::board;
+use boundary::{board, reasons};
 use reader::LONGEST;
 use std::ffi::{c_int, c_long, c_void};
 use streams::Random;
@@ -97,6 +97,19 @@ fn plain_reader() {
             start = (found.position + found.length) as usize;
         }
         assert_eq!(messages, reader::divide(&stream).given.len());
+    }
+}
+
+/// All short lengths, and longer recordings at about a hundred positions.
+#[test]
+fn reasons_at_the_edges() {
+    let mut lent = Walled::new();
+    for (mut random, stream) in streams_from(SEED, 2000) {
+        let length = stream.len().min(random.below(2) * PAGES * PAGE + random.below(41));
+        for at_the_end in [true, false] {
+            let recording = lent.bytes(length, at_the_end, &stream[..length]);
+            reasons(recording, (0..=length + 1).step_by(1 + length / 100)).unwrap();
+        }
     }
 }
 

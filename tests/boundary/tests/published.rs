@@ -1,6 +1,6 @@
 //! The messages that 264-21 and 264-04 publish, through the C boundary and the second reader.
 
-use boundary::{board, check, next, numbers, read, recording, run, set, to_new, to_old};
+use boundary::{all_reasons, board, check, next, numbers, read, recording, run, set, to_new, to_old};
 use reader::LONGEST;
 
 const NEW: &[u8] = include_bytes!("../../../crates/vectors/data/264-21-figure-1.bin");
@@ -65,6 +65,7 @@ fn the_old_messages_are_refused_as_printed() {
         assert_eq!(check(message).unwrap(), 4);
         assert_eq!(reader::check(message), Err(4));
         assert_eq!(reader::checksum(&message[4..]), 0x02, "the residue is VERSION");
+        assert_eq!(board::why(message, 0), board::Reason { refusal: 0, kind: board::CHECKSUM, value: 0x02 });
     }
     assert_eq!(messages(OLD), 0);
     assert_eq!(board::next(OLD, 0), board::Found { kind: board::END, gap: 456, ..Default::default() });
@@ -78,6 +79,15 @@ fn the_old_messages_are_accepted_by_the_rule() {
     assert_eq!(check(&OLD_BY_THE_RULE[25..184]).unwrap(), 0);
     assert_eq!(check(&OLD_BY_THE_RULE[253..412]).unwrap(), 0);
     assert_eq!(messages(OLD_BY_THE_RULE), 2);
+}
+
+#[test]
+fn every_position_says_why() {
+    for stream in [NEW, OLD, OLD_BY_THE_RULE] {
+        all_reasons(stream).unwrap();
+    }
+    assert_eq!([25, 253].map(|position| board::why(OLD, position).kind), [board::CHECKSUM; 2]);
+    assert_eq!([25, 253].map(|position| board::why(OLD_BY_THE_RULE, position).kind), [board::GIVEN; 2]);
 }
 
 #[test]

@@ -1,6 +1,6 @@
 //! Each refusal of document 01's table by name, in the order in which a call tests them: all other numbers are 0, and no lent byte changes.
 
-use boundary::{board, check, next, read, set, start, to_new, to_old, Twin};
+use boundary::{board, check, next, read, reasons, set, start, to_new, to_old, Twin};
 use reader::{LONGEST, STREAM_BYTES};
 
 // Both stand in read-only memory: a call that wrote into a message lent for reading would end the program.
@@ -142,4 +142,15 @@ fn twelve() {
     }
     assert_eq!(next(&[], 0).unwrap(), 0);
     assert_eq!(next(&[], 1).unwrap(), 12);
+}
+
+/// Unlike a start, a position has to be that of a byte: the end itself is refused.
+#[test]
+fn twelve_at_the_end() {
+    for message in [&A[..], &B, &[]] {
+        reasons(message, 0..message.len()).unwrap();
+        for position in [message.len(), message.len() + 1, 1 << 32, 1 << 63, usize::MAX] {
+            assert_eq!(board::why(message, position), board::Reason { refusal: 12, ..Default::default() });
+        }
+    }
 }

@@ -1,6 +1,6 @@
 //! Document 01's sample table and its run lines, through the C boundary.
 
-use boundary::{board, check, numbers, recording, run, Twin};
+use boundary::{all_reasons, board, check, numbers, recording, run, Twin};
 use reader::LONGEST;
 
 const A: [u8; 16] = [0x4D, 0x41, 0x43, 0x32, 0x00, 0x00, 0x00, 0x0E, 0xA0, 0x0C, 0x90, 0x40, 0x7C, 0x10, 0x00, 0x1E];
@@ -57,6 +57,18 @@ fn s12_needs_more_until_it_is_finished() {
     assert_eq!(twin.finish().unwrap(), end);
     assert_eq!(twin.finish().unwrap(), end);
     assert_eq!(board::next(&stream, 0), board::Found { refusal: 0, kind: board::MESSAGE, position: 3, length: 16, gap: 3 });
+}
+
+#[test]
+fn s12_says_why() {
+    let stream = [&A[..3], &A].concat();
+    all_reasons(&stream).unwrap();
+    let reason = |kind, value| board::Reason { refusal: 0, kind, value };
+    assert_eq!(board::why(&stream, 0), reason(board::CUT_SHORT, 1604));
+    assert_eq!([1, 2].map(|position| board::why(&stream, position)), [reason(board::SYNC, 1); 2]);
+    assert_eq!(board::why(&stream, 3), reason(board::GIVEN, 16));
+    (4..19).for_each(|position| assert_eq!(board::why(&stream, position), reason(board::INSIDE, 3)));
+    assert_eq!(board::why(&stream, 19), board::Reason { refusal: 12, ..Default::default() });
 }
 
 /// Every cutting of a short stream into three pieces, empty ones included.

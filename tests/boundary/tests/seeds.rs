@@ -41,6 +41,11 @@ fn plain_reader() {
 }
 
 #[test]
+fn reasons() {
+    named("why");
+}
+
+#[test]
 fn feed_in_any_state() {
     named("feed");
 }
