@@ -1,4 +1,4 @@
--- The two programs' functions answer nothing and borrow nothing: what they print is held to stored output. Assumes nothing.
+-- The programs' functions answer nothing and borrow nothing: what they print is held to stored output. Assumes nothing.
 use Rattle.owed.specs.Determined.{Determined}
 use Rattle.owed.proofs.Same.{both}
 use Rattle.report.proofs as report
@@ -8,3 +8,6 @@ listing-determined κs a z z′ w w′ p q = search both
 
 pub rows-determined : Determined report.rows.ended report.rows.Reads.Learnt
 rows-determined κs a z z′ w w′ p q = search both
+
+pub reasons-determined : Determined report.reasons.ended report.reasons.Reads.Learnt
+reasons-determined κs a z z′ w w′ p q = search both

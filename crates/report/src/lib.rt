@@ -1,6 +1,6 @@
 // What the programs share: a recording comes in on standard input in large blocks, is divided where it stands in the buffer, and its lines go out in
-// large blocks. What a line says is proved in `lines`, that blocks divided so give the division of the recording in `promises`; what a program prints is
-// held to stored output.
+// large blocks. What a line says is proved in `lines` and `account`, that blocks divided so give the division of the recording in `promises`; what a
+// program prints is held to stored output.
 use division::Walked;
 use std::num::wrapping_add_u64;
 use std::num::wrapping_add_usize;
@@ -209,4 +209,44 @@ pub fn rows()
 {
     let heading = b"at time form type sid cn0 condition range phase bits polarity rate lock\n";
     print_recording(true, heading);
+}
+
+// ---- the account
+
+// Reads until the buffer is full or the input ends: how many bytes there are.
+fn fill(buffer: &mut [u8]) -> usize {
+    let mut count = 0;
+    for _ in 0..buffer.len() {
+        let got = read_behind(buffer, count);
+        if got == 0 {
+            return count;
+        }
+        count = wrapping_add_usize(count, got);
+    }
+    count
+}
+
+// The heading and a line for each position; of a recording that is too long, that it is.
+fn put_reasons(text: &mut [u8], recording: &[u8]) -> usize {
+    if recording.len() > 61440 {
+        return text::put_all(text, 0, b"longer than 61440 bytes\n");
+    }
+    let next = text::put_all(text, 0, b"at reason value\n");
+    account::put_account(text, next, recording)
+}
+
+// One byte more than fits is read, to see whether the recording is longer.
+fn print_reasons(recording: &mut [u8], text: &mut [u8]) {
+    let count = fill(recording);
+    let waiting = put_reasons(text, text::front(recording, count));
+    write_out(text, waiting);
+}
+
+// Why each position of a short recording is or is not the first of a message. No line of it takes more than 20 bytes.
+pub fn reasons()
+    ensures { λ r. ⌜ r ≡ tt ⌝ }
+{
+    let mut recording = [0u8; 61441];
+    let mut text = [0u8; 1228816];
+    print_reasons(&mut recording, &mut text);
 }
