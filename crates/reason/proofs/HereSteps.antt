@@ -1,11 +1,15 @@
 -- What each step of the reason at the first byte comes to, in the definitions' words. Assumes nothing.
 use Prim.Native.Nat.{ℕ, suc, _+_, _-_, _≤_, _<_}
-use mathlib.Core.Path.{_≡_, refl, sym, ap, _∙_}
+use mathlib.Core.Path.{_≡_, refl, sym, ap, ap₂, _∙_}
 use mathlib.Core.List.{List, [], _∷_}
 use native.Mathlib.Omega.{arith}
 use native.Mathlib.Numerals.{add-one}
-use lib.ListN.{length}
+use lib.ListN.{length, getD, take, drop, length-drop}
+use lib.Seq.{take-suc, getD-drop}
+use lib.Bits.{bitXor}
 use borrow.Author.Tests.{lt-ltb, le-ltb, le-leb, lt-leb, eq-eqb, ne-eqb}
+use Rattle.octets.specs.Checksum.{checksumFrom, checksumOf}
+use Rattle.octets.proofs.ExclusiveOr.{checksum-append}
 use Rattle.refusal.specs.declared.Refusal.the-variants.{PastEnd}
 use Rattle.front.specs.declared.Claim.{Claim}
 use Rattle.front.specs.declared.Claim.the-variants.{Nothing, AtLeast, Long}
@@ -16,10 +20,21 @@ use Rattle.reason.specs.declared.Reason.the-variants.{Refused, Given, Sy
 use Rattle.reason.specs.Reason.{wrongAt, residueOf, summed, saidBy, hereOf}
 
 -- a claimed message is long enough to have a checksum
-pub long-four : (xs : List ℕ) (c : Claim) → c ≡ claim xs → (n : ℕ) → c ≡ Long n → 4 ≤ n
-long-four xs c e n q = let h : ClaimFact xs (Long n) = rw (← e, q) at (claim-fact xs) in omega (arith, h .0)
+pub long-five : (xs : List ℕ) (c : Claim) → c ≡ claim xs → (n : ℕ) → c ≡ Long n → 5 ≤ n
+long-five xs c e n q = let h : ClaimFact xs (Long n) = rw (← e, q) at (claim-fact xs) in omega (arith, h .0)
 
 -- ---- the checksum
+
+-- as the code has it: that of `&bytes[4..last]`, and the last byte
+pub residue-last : (xs : List ℕ) (n a : ℕ) → 5 ≤ n → n ≤ length xs → a ≡ checksumOf (take (n - 1 - 4) (drop 4 xs)) → bitXor a (getD xs (n - 1) 0) ≡ residueOf n xs
+unfolding checksumFrom
+residue-last xs n a l here e =
+    let k = n - 1 - 4 in
+    let y : 4 + k ≡ n - 1 = omega arith in
+    let z : suc k ≡ n - 4 = omega arith in
+    ap₂ bitXor e (ap (λ i. getD xs i 0) (sym y) ∙ sym (getD-drop 4 xs k 0)) ∙ sym (checksum-append (take k (drop 4 xs)) (getD (drop 4 xs) k 0 ∷ []))
+    ∙ ap checksumOf (sym (take-suc (drop 4 xs) k 0 (omega (arith, length-drop 4 xs)))) ∙ ap (λ i. checksumOf (take i (drop 4 xs))) z
+
 pub sum-given : (n residue : ℕ) → residue ≡ 0 → Given n ≡ summed n residue
 unfolding summed
 sum-given n residue e = rw (eq-eqb residue 0 e)

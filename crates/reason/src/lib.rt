@@ -46,12 +46,13 @@ fn wrong_at(bytes: &[u8]) -> usize
     if new < old { old + 1 } else { new + 1 }
 }
 
-// All bytes of a claimed message are here.
+// All bytes of a claimed message are here. The last one stands apart, so that the others are summed in vectors.
 fn sum(bytes: &[u8], n: usize) -> Reason
-    requires { ⌜ (4 ≤ n) × (n ≤ length (now bytes)) ⌝ }
+    requires { ⌜ (5 ≤ n) × (n ≤ length (now bytes)) ⌝ }
     ensures { λ r. ⌜ r ≡ summed n (residueOf n (now (bytes .entry))) ⌝ }
 {
-    let residue = octets::checksum(&bytes[4..n]);
+    let last = n - 1;
+    let residue = octets::checksum(&bytes[4..last]) ^ bytes[last];
     if residue == 0 {
         return Reason::Given(n);
     }

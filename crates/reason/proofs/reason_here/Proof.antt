@@ -1,7 +1,7 @@
 -- `reason::reason_here` meets its contract. Assumes nothing.
 use mathlib.Core.Path.{_∙_, ap}
 use Rattle.reason.specs.declared.Reason.the-variants.{Sync}
-use Rattle.reason.proofs.HereSteps.{here-none, here-sync, here-unknown, here-short, here-whole, long-four}
+use Rattle.reason.proofs.HereSteps.{here-none, here-sync, here-unknown, here-short, here-whole, long-five}
 use borrow.Author.Needs.{needs}
 use Rattle.reason.proofs.reason_here.Statement.{statement}
 use Rattle.reason.proofs.reason_here.Tie as tie
@@ -33,7 +33,7 @@ returns-2 c = here-short _ (c .before .before .before .before .before .if1 .left
 sum-requires : tie.Need-sum-requires
 sum-requires c κs =
     let xs = c .before .before .before .before .before .before .before .args .bytes .now in
-    (long-four xs _ (c .before .before .before .before .claims .ensures) _ (c .before .before .n .given .1), c .if2 .left)
+    (long-five xs _ (c .before .before .before .before .claims .ensures) _ (c .before .before .n .given .1), c .if2 .left)
 
 returns-3 : tie.Need-returns-3
 returns-3 c = ap Sync (c .wrong-at .ensures) ∙ here-sync _ (c .before .before .before .before .if1 .left) _ (c .before .before .before .claims .ensures) (c .before .enum-told .given .1)

@@ -1,9 +1,12 @@
 -- `reason::sum` meets its contract. Assumes nothing.
-use mathlib.Core.Path.{_≡_, sym, _∙_}
-use Rattle.reason.proofs.HereSteps.{sum-given, sum-off}
+use mathlib.Core.Path.{sym, _∙_}
+use Rattle.reason.proofs.HereSteps.{residue-last, sum-given, sum-off}
 use borrow.Author.Needs.{needs}
 use Rattle.reason.proofs.sum.Statement.{statement}
 use Rattle.reason.proofs.sum.Tie as tie
+
+sub-last : tie.Need-sub-last
+sub-last c = search needs
 
 sub-checksum : tie.Need-sub-checksum
 sub-checksum c = search needs
@@ -17,19 +20,30 @@ part-checksum-end c = search needs
 checksum-requires : tie.Need-checksum-requires
 checksum-requires c κs = search needs
 
+shared-slice-read-residue : tie.Need-shared-slice-read-residue
+shared-slice-read-residue c = search needs
+
 returns : tie.Need-returns
-returns c = rw (← c .before .checksum .ensures) (sum-given _ _ (c .if1 .taken))
+returns c =
+    let a = c .before .before .before .before .before .args in
+    let z = residue-last (a .bytes .now) (a .n) _ (c .before .before .before .before .before .pre .0) (c .before .before .before .before .before .pre .1) (c .before .before .checksum .ensures) in
+    rw (← z) (sum-given (a .n) _ (c .if1 .taken))
 
 returns-2 : tie.Need-returns-2
-returns-2 c = rw (← c .before .checksum .ensures) (sum-off _ _ (c .if1 .left))
+returns-2 c =
+    let a = c .before .before .before .before .before .args in
+    let z = residue-last (a .bytes .now) (a .n) _ (c .before .before .before .before .before .pre .0) (c .before .before .before .before .before .pre .1) (c .before .before .checksum .ensures) in
+    rw (← z) (sum-off (a .n) _ (c .if1 .left))
 
 pub sum-spec : {M : Type 1} → statement M
 sum-spec =
     tie.close
     (tie.spec
+    sub-last
     sub-checksum
     part-checksum-start
     part-checksum-end
     checksum-requires
+    shared-slice-read-residue
     returns
     returns-2)
