@@ -32,6 +32,9 @@ cs-to-old-determined κs a z z′ w w′ p q = search both
 pub cs-next-determined : Determined board.cs_next.ended board.cs_next.Reads.Learnt
 cs-next-determined κs a z z′ w w′ p q = search both
 
+pub cs-why-determined : Determined board.cs_why.ended board.cs_why.Reads.Learnt
+cs-why-determined κs a z z′ w w′ p q = search both
+
 pub cs-fresh-determined : Determined board.cs_fresh.ended board.cs_fresh.Reads.Learnt
 cs-fresh-determined κs a z z′ w w′ p q = search both
 

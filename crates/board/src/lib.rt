@@ -15,12 +15,13 @@ ghost use Rattle.compose.specs.Set.{setOf, setBytes};
 ghost use Rattle.compose.specs.Convert.{convertOf, convertBytes};
 ghost use Rattle.compose.specs.Answers.{writtenNumber};
 ghost use Rattle.division.specs.Plain.{nextOf};
+ghost use Rattle.reason.specs.Reason.{reasonOf};
 ghost use Rattle.stream.specs.Reader.{freshState, feedCall, finishCall};
 ghost use Rattle.track.specs.Range.{rangeOf};
 ghost use Rattle.track.specs.Row.{rowOf, Bounded};
 ghost use Rattle.track.specs.Shown.{phaseOf};
 ghost use Rattle.units.specs.Units.{lockOf, lockMillis, millisIn};
-ghost use Rattle.words.specs.Words.{formIn, headerIn, observationIn, readingWords, writtenWords, foundWords, phaseWords};
+ghost use Rattle.words.specs.Words.{formIn, headerIn, observationIn, readingWords, writtenWords, foundWords, reasonWords, phaseWords};
 ghost use Rattle.board.specs.Lent.{Finds};
 
 // ---- one message
@@ -78,6 +79,13 @@ pub extern "C" fn cs_next(recording: &[u8], start: usize) -> words::FoundWords
     ensures { λ r. ⌜ r ≡ foundWords (nextOf (now (recording .entry)) start) ⌝ }
 {
     words::found_words(division::next_message(recording, start))
+}
+
+#[no_mangle]
+pub extern "C" fn cs_why(recording: &[u8], position: usize) -> words::ReasonWords
+    ensures { λ r. ⌜ r ≡ reasonWords (reasonOf (now (recording .entry)) position) ⌝ }
+{
+    words::reason_words(reason::reason_at(recording, position))
 }
 
 #[no_mangle]

@@ -21,6 +21,9 @@ written-words-determined κs a z z′ w w′ p q = search both
 pub found-words-determined : Determined words.found_words.ended words.found_words.Reads.Learnt
 found-words-determined κs a z z′ w w′ p q = search both
 
+pub reason-words-determined : Determined words.reason_words.ended words.reason_words.Reads.Learnt
+reason-words-determined κs a z z′ w w′ p q = search both
+
 pub answer-words-determined : Determined words.answer_words.ended words.answer_words.Reads.Learnt
 answer-words-determined κs a z z′ w w′ p q = search both
 

@@ -18,6 +18,8 @@ use Rattle.compose.specs.declared.Written.{Written}
 use Rattle.compose.specs.Answers.{writtenNumber, writtenLength}
 use Rattle.division.specs.declared.Next.{Next}
 use Rattle.division.specs.declared.Next.the-variants.{Refused as NotFound, Message as Found, End as NoneLeft}
+use Rattle.reason.specs.declared.Reason.{Reason}
+use Rattle.reason.specs.declared.Reason.the-variants.{Refused as NoReason, Inside, Given, Sync, CutUnknown, CutShort, Checksum}
 use Rattle.stream.specs.declared.Answer.{Answer}
 use Rattle.stream.specs.declared.Answer.the-variants.{Refused, NeedsMore, Message, End}
 use Rattle.track.specs.declared.Phase.{Phase}
@@ -27,6 +29,7 @@ use Rattle.words.specs.declared.ObservationWords.{ObservationWords}
 use Rattle.words.specs.declared.ReadingWords.{ReadingWords}
 use Rattle.words.specs.declared.WrittenWords.{WrittenWords}
 use Rattle.words.specs.declared.FoundWords.{FoundWords}
+use Rattle.words.specs.declared.ReasonWords.{ReasonWords}
 use Rattle.words.specs.declared.AnswerWords.{AnswerWords}
 use Rattle.words.specs.declared.PhaseWords.{PhaseWords}
 
@@ -97,6 +100,16 @@ abbrev pub foundWords : Next → FoundWords
 foundWords (NotFound r) = record { refusal = numberOf r; kind = 0; position = 0; length = 0; gap = 0 }
 foundWords (Found p n g) = record { refusal = 0; kind = 1; position = p; length = n; gap = g }
 foundWords (NoneLeft g) = record { refusal = 0; kind = 2; position = 0; length = 0; gap = g }
+
+-- kind 1 is inside, 2 given, 3 a wrong sync, 4 cut short before the count byte, 5 cut short, 6 a wrong checksum
+abbrev pub reasonWords : Reason → ReasonWords
+reasonWords (NoReason r) = record { refusal = numberOf r; kind = 0; value = 0 }
+reasonWords (Inside q) = record { refusal = 0; kind = 1; value = q }
+reasonWords (Given n) = record { refusal = 0; kind = 2; value = n }
+reasonWords (Sync k) = record { refusal = 0; kind = 3; value = k }
+reasonWords CutUnknown = record { refusal = 0; kind = 4; value = 0 }
+reasonWords (CutShort n) = record { refusal = 0; kind = 5; value = n }
+reasonWords (Checksum residue) = record { refusal = 0; kind = 6; value = residue }
 
 -- kind 0 needs more, and then all of the bytes offered are taken; 1 is a message, 2 the end
 abbrev pub answerWords : Answer → ℕ → AnswerWords

@@ -6,10 +6,11 @@ use macm::Form;
 use macm::Header;
 use macm::Observation;
 use macm::Reading;
+use reason::Reason;
 use stream::Answer;
 use track::Phase;
 ghost use mathlib.Core.Path.{_≡_};
-ghost use Rattle.words.specs.Words.{lowBits, formIn, headerIn, observationIn, headerWords, observationWords, unobservedWords, readingWords, writtenWords, foundWords, answerWords, phaseWords};
+ghost use Rattle.words.specs.Words.{lowBits, formIn, headerIn, observationIn, headerWords, observationWords, unobservedWords, readingWords, writtenWords, foundWords, reasonWords, answerWords, phaseWords};
 
 #[repr(C)]
 pub struct HeaderWords {
@@ -54,6 +55,13 @@ pub struct FoundWords {
     pub position: u64,
     pub length: u64,
     pub gap: u64,
+}
+
+#[repr(C)]
+pub struct ReasonWords {
+    pub refusal: u64,
+    pub kind: u64,
+    pub value: u64,
 }
 
 #[repr(C)]
@@ -237,6 +245,30 @@ pub fn found_words(next: Next) -> FoundWords
             gap,
         } => found_of(0, 1, position, length, gap),
         Next::End { gap } => found_of(0, 2, 0, 0, gap),
+    }
+}
+
+fn reason_of(refusal: u64, kind: u64, value: u64) -> ReasonWords
+    ensures { λ r. ⌜ r ≡ record { refusal = refusal; kind = kind; value = value } ⌝ }
+{
+    ReasonWords {
+        refusal,
+        kind,
+        value,
+    }
+}
+
+pub fn reason_words(reason: Reason) -> ReasonWords
+    ensures { λ r. ⌜ r ≡ reasonWords reason ⌝ }
+{
+    match reason {
+        Reason::Refused(refusal) => reason_of(refusal::number(refusal), 0, 0),
+        Reason::Inside(start) => reason_of(0, 1, start as u64),
+        Reason::Given(length) => reason_of(0, 2, length as u64),
+        Reason::Sync(byte) => reason_of(0, 3, byte as u64),
+        Reason::CutUnknown => reason_of(0, 4, 0),
+        Reason::CutShort(missing) => reason_of(0, 5, missing as u64),
+        Reason::Checksum(residue) => reason_of(0, 6, residue as u64),
     }
 }
 
