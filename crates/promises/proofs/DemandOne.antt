@@ -19,10 +19,11 @@ use Rattle.compose.specs.Start.{startOf, startBytes}
 use Rattle.compose.specs.Set.{setOf, setBytes}
 use Rattle.compose.specs.Convert.{convertOf, convertBytes}
 use Rattle.division.specs.Plain.{nextOf}
+use Rattle.reason.specs.Reason.{reasonOf}
 use Rattle.stream.specs.declared.State.{State}
 use Rattle.stream.specs.Reader.{feedCall, finishCall}
 use Rattle.owed.specs.Meets.{AsksNothing}
-use Rattle.promises.specs.Numbers.{readNumber, nextNumber, answerNumber, Refuses, Unchanged, CheckTable, ReadTable, SetTable, StartTable, ConvertTable, NextTable, FinishTable, FeedTable}
+use Rattle.promises.specs.Numbers.{readNumber, nextNumber, reasonNumber, answerNumber, Refuses, Unchanged, CheckTable, ReadTable, SetTable, StartTable, ConvertTable, NextTable, ReasonTable, FinishTable, FeedTable}
 use Rattle.promises.proofs.Numbers as numbers
 use Rattle.promises.proofs.Unchanged as unchanged
 use Rattle.octets.proofs as octets
@@ -34,6 +35,8 @@ use Rattle.track.proofs as track
 use Rattle.front.proofs as front
 use Rattle.division.proofs as division
 use Rattle.stream.proofs as stream
+use Rattle.reason.proofs as reason
+use Rattle.account.proofs as account
 use Rattle.words.proofs as words
 use Rattle.text.proofs as text
 use Rattle.lines.proofs as lines
@@ -58,6 +61,9 @@ convert-by-number g m out = numbers.convert-table g m out
 
 pub next-by-number : (s : List ℕ) (start : ℕ) → NextTable s start (nextNumber (nextOf s start))
 next-by-number s start = numbers.next-table s start
+
+pub why-by-number : (s : List ℕ) (p : ℕ) → ReasonTable s p (reasonNumber (reasonOf s p))
+why-by-number s p = numbers.reason-table s p
 
 pub feed-by-number : (s : State) (p w o : List ℕ) → FeedTable s p w o (answerNumber (feedCall s p w o .answer))
 feed-by-number s p w o = numbers.feed-table s w o p
@@ -91,7 +97,8 @@ pub reading-asks-nothing :
     × AsksNothing macm.read.ended macm.read.Reads.Asked
     × AsksNothing division.next_message.ended division.next_message.Reads.Asked
     × AsksNothing division.message_part.ended division.message_part.Reads.Asked
-reading-asks-nothing = ((λ κs a. tt), (λ κs a. tt), (λ κs a. tt), (λ κs a. tt))
+    × AsksNothing reason.reason_at.ended reason.reason_at.Reads.Asked
+reading-asks-nothing = ((λ κs a. tt), (λ κs a. tt), (λ κs a. tt), (λ κs a. tt), (λ κs a. tt))
 
 pub writing-asks-nothing :
     AsksNothing compose.start.ended compose.start.Reads.Asked
@@ -122,13 +129,14 @@ pub board-asks-nothing :
     × AsksNothing board.cs_to_new.ended board.cs_to_new.Reads.Asked
     × AsksNothing board.cs_to_old.ended board.cs_to_old.Reads.Asked
     × AsksNothing board.cs_next.ended board.cs_next.Reads.Asked
+    × AsksNothing board.cs_why.ended board.cs_why.Reads.Asked
     × AsksNothing board.cs_fresh.ended board.cs_fresh.Reads.Asked
     × AsksNothing board.cs_range_um.ended board.cs_range_um.Reads.Asked
     × AsksNothing board.cs_lock_ms.ended board.cs_lock_ms.Reads.Asked
     × AsksNothing board.cs_phase.ended board.cs_phase.Reads.Asked
     × AsksNothing board.cs_plot_row.ended board.cs_plot_row.Reads.Asked
 board-asks-nothing =
-    ((λ κs a. tt), (λ κs a. tt), (λ κs a. tt), (λ κs a. tt), (λ κs a. tt), (λ κs a. tt), (λ κs a. tt), (λ κs a. tt), (λ κs a. tt), (λ κs a. tt), (λ κs a. tt), (λ κs a. tt))
+    ((λ κs a. tt), (λ κs a. tt), (λ κs a. tt), (λ κs a. tt), (λ κs a. tt), (λ κs a. tt), (λ κs a. tt), (λ κs a. tt), (λ κs a. tt), (λ κs a. tt), (λ κs a. tt), (λ κs a. tt), (λ κs a. tt))
 
 -- and the parts that the entries are made of
 pub bytes-ask-nothing :
@@ -159,7 +167,8 @@ pub parts-ask-nothing :
     × AsksNothing macm.agreeing.ended macm.agreeing.Reads.Asked
     × AsksNothing front.claims.ended front.claims.Reads.Asked
     × AsksNothing division.walk.ended division.walk.Reads.Asked
-parts-ask-nothing = ((λ κs a. tt), (λ κs a. tt), (λ κs a. tt), (λ κs a. tt), (λ κs a. tt), (λ κs a. tt))
+    × AsksNothing reason.reason_here.ended reason.reason_here.Reads.Asked
+parts-ask-nothing = ((λ κs a. tt), (λ κs a. tt), (λ κs a. tt), (λ κs a. tt), (λ κs a. tt), (λ κs a. tt), (λ κs a. tt))
 
 pub words-ask-nothing :
     AsksNothing words.form_in.ended words.form_in.Reads.Asked
@@ -168,10 +177,11 @@ pub words-ask-nothing :
     × AsksNothing words.reading_words.ended words.reading_words.Reads.Asked
     × AsksNothing words.written_words.ended words.written_words.Reads.Asked
     × AsksNothing words.found_words.ended words.found_words.Reads.Asked
+    × AsksNothing words.reason_words.ended words.reason_words.Reads.Asked
     × AsksNothing words.answer_words.ended words.answer_words.Reads.Asked
     × AsksNothing words.phase_words.ended words.phase_words.Reads.Asked
 words-ask-nothing =
-    ((λ κs a. tt), (λ κs a. tt), (λ κs a. tt), (λ κs a. tt), (λ κs a. tt), (λ κs a. tt), (λ κs a. tt), (λ κs a. tt))
+    ((λ κs a. tt), (λ κs a. tt), (λ κs a. tt), (λ κs a. tt), (λ κs a. tt), (λ κs a. tt), (λ κs a. tt), (λ κs a. tt), (λ κs a. tt))
 
 pub text-asks-nothing :
     AsksNothing text.put.ended text.put.Reads.Asked
@@ -179,14 +189,18 @@ pub text-asks-nothing :
     × AsksNothing text.front.ended text.front.Reads.Asked
     × AsksNothing text.put_decimal.ended text.put_decimal.Reads.Asked
     × AsksNothing text.put_hex.ended text.put_hex.Reads.Asked
+    × AsksNothing text.put_number.ended text.put_number.Reads.Asked
+    × AsksNothing text.put_count.ended text.put_count.Reads.Asked
     × AsksNothing text.put_metres.ended text.put_metres.Reads.Asked
     × AsksNothing text.put_hertz.ended text.put_hertz.Reads.Asked
     × AsksNothing text.put_cycles.ended text.put_cycles.Reads.Asked
     × AsksNothing lines.put_line.ended lines.put_line.Reads.Asked
     × AsksNothing lines.put_end.ended lines.put_end.Reads.Asked
     × AsksNothing lines.put_rows.ended lines.put_rows.Reads.Asked
+    × AsksNothing account.put_reason.ended account.put_reason.Reads.Asked
+    × AsksNothing account.put_account.ended account.put_account.Reads.Asked
 text-asks-nothing =
-    ((λ κs a. tt), (λ κs a. tt), (λ κs a. tt), (λ κs a. tt), (λ κs a. tt), (λ κs a. tt), (λ κs a. tt), (λ κs a. tt), (λ κs a. tt), (λ κs a. tt), (λ κs a. tt))
+    ((λ κs a. tt), (λ κs a. tt), (λ κs a. tt), (λ κs a. tt), (λ κs a. tt), (λ κs a. tt), (λ κs a. tt), (λ κs a. tt), (λ κs a. tt), (λ κs a. tt), (λ κs a. tt), (λ κs a. tt), (λ κs a. tt), (λ κs a. tt), (λ κs a. tt))
 
 -- the two over a lent state are walked by hand and so have no `Reads`: their `requires` is empty in every model of the logic
 pub cs-feed-asks-nothing : (w : World) (κs : Lfts 4) (a : Args board.cs_feed.signature κs) → board.cs_feed.clauses (w .𝓤) (w .H) (w .𝓖 .A) (w .𝓜 .mem) (w .𝓡 .run) κs a .requires tt ≡ emp (w .𝓤)

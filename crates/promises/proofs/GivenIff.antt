@@ -154,21 +154,23 @@ module _ (xs : List ℕ) (p : ℕ) where
       some : (15 ≤ length m) × (length m ≤ length (drop p xs))
       some = rw there at (look-fact (drop p xs))
 
+-- ---- in a division of a whole recording
+module _ (xs : List ℕ) (p : ℕ) where
+  pub given-stands : (m : List ℕ) → Given (asRun (divide xs 0)) p m → (stands (drop p xs) ≡ length m) × (0 < length m) × (m ≡ part p (length m) xs)
+  given-stands m h =
+      let a = given-at (length xs) xs 0 p m (omega arith) h in
+      let z : p - 0 ≡ p = omega arith in
+      (ap (λ i. stands (drop i xs)) (sym z) ∙ a .long, a .some, a .bytes ∙ ap (λ i. part i (length m) xs) z)
+
+  pub stands-given : (n : ℕ) → stands (drop p xs) ≡ n → 0 < n → Uncovered (asRun (divide xs 0)) p → Given (asRun (divide xs 0)) p (take n (drop p xs))
+  stands-given zero e z u = absurd (omega arith)
+  stands-given (suc n) e z u = rw (zero-add p) at (uncovered-given (length xs) xs 0 p n (omega arith) e (rw (zero-add p) u))
+
 module _ (xs : List ℕ) (p : ℕ) (m : List ℕ) where
   pub valid-if-given : Given (asRun (divide xs 0)) p m → Valid xs p m × Uncovered (asRun (divide xs 0)) p
   valid-if-given h =
-      let a = given-at (length xs) xs 0 p m (omega arith) h in
-      let z : p - 0 ≡ p = omega arith in
-      let b : m ≡ part p (length m) xs = a .bytes ∙ ap (λ i. part i (length m) xs) z in
-      let n : stands (drop p xs) ≡ length m = ap (λ i. stands (drop i xs)) (sym z) ∙ a .long in
-      (record { stands = b; accepted = ap (λ r. checkNumber (verdict r)) b ∙ stands-checked xs p (length m) n (a .some) }, λ q m′ h′ l. apart (asRun (divide xs 0)) p q m m′ h h′ l)
+      let a = given-stands xs p m h in
+      (record { stands = a .2; accepted = ap (λ r. checkNumber (verdict r)) (a .2) ∙ stands-checked xs p (length m) (a .0) (a .1) }, λ q m′ h′ l. apart (asRun (divide xs 0)) p q m m′ h h′ l)
 
   pub given-if-valid : Bytes xs → Valid xs p m → Uncovered (asRun (divide xs 0)) p → Given (asRun (divide xs 0)) p m
-  given-if-valid b v u = go (length m) refl
-    where
-      s : (stands (drop p xs) ≡ length m) × (0 < length m)
-      s = valid-stands xs p m b v
-
-      go : (n : ℕ) → length m ≡ n → Given (asRun (divide xs 0)) p m
-      go zero e = absurd (omega (arith, s .1))
-      go (suc n) e = rw (v .stands, e) (rw (zero-add p) at (uncovered-given (length xs) xs 0 p n (omega arith) (s .0 ∙ e) (rw (zero-add p) u)))
+  given-if-valid b v u = let s = valid-stands xs p m b v in rw (v .stands) (stands-given xs p (length m) (s .0) (s .1) u)

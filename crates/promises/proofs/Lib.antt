@@ -1,6 +1,7 @@
 pub mod DemandOne
 pub mod DemandTwo
 pub mod DemandThree
+pub mod Reasons
 pub mod WrongPrograms
 pub mod Numbers
 pub mod Unchanged
@@ -16,6 +17,12 @@ pub mod Conversion
 pub mod Stands
 pub mod AsRun
 pub mod GivenIff
+pub mod Fits
+pub mod ClaimSays
+pub mod Located
+pub mod FirstBytes
+pub mod ReasonHolds
+pub mod ReasonOfPart
 pub mod PlainSame
 pub mod Checked
 pub mod Left

@@ -1,11 +1,11 @@
 -- Each entry refuses by document 01's numbers: each number under its condition and no other, and 0 where none holds. Assumes nothing.
-use Prim.Native.Nat.{ℕ, _+_, _≤_, _<_}
+use Prim.Native.Nat.{ℕ, _+_, _-_, _≤_, _<_}
 use mathlib.Core.Path.{_≡_, refl, sym, ap, _∙_}
 use mathlib.Core.Bool.{Bool, true, false, cond}
 use mathlib.Core.Logic.{_⊎_, inl, inr, ⊎-elim}
 use mathlib.Core.List.{List, _++_}
 use native.Mathlib.Omega.{arith}
-use lib.ListN.{length, getD, take, drop, take-append-drop}
+use lib.ListN.{length, getD, take, drop, take-append-drop, length-drop}
 use lib.Dec.{ltb, leb, eqb}
 use borrow.Author.Tests.{ltb-true, ltb-false, leb-true, leb-false, eqb-true, eqb-false, le-ltb}
 use Rattle.octets.specs.Begins.{fit, begins}
@@ -33,12 +33,18 @@ use Rattle.compose.specs.Convert.{allowed, convertBy, convertOf}
 use Rattle.division.specs.Division.{Division, last, part as onward, divide}
 use Rattle.division.specs.Plain.{firstOf, nextOf}
 use Rattle.division.specs.declared.Next.the-variants.{Refused as NotFound}
+use Rattle.front.specs.declared.Claim.{Claim}
+use Rattle.front.specs.declared.Claim.the-variants.{Nothing, AtLeast, Long}
+use Rattle.front.specs.Claim.{claim}
+use Rattle.reason.specs.declared.Reason.the-variants.{Refused as NoReason, Inside, Given, CutShort, Checksum}
+use Rattle.reason.specs.Reason.{residueOf, summed, saidBy, hereOf, coverOf, reasonOf}
+use Rattle.reason.proofs.HereSteps.{here-some}
 use Rattle.stream.specs.declared.State.{State}
 use Rattle.stream.specs.Feed.{Fed, given, more, feed, finish}
 use Rattle.stream.specs.Reader.{feedCall, finishCall, fedCall, finishedCall}
 use Rattle.stream.specs.Steps.{Allowed}
 use Rattle.stream.proofs.Cases.{Small, Bad, finish-cases, feed-cases}
-use Rattle.promises.specs.Numbers.{readNumber, nextNumber, answerNumber, Differs, OfForm, CheckTable, ReadTable, SetTable, Room, StartTable, ConvertTable, NextTable, Buffers, Sound, FinishTable, FeedTable}
+use Rattle.promises.specs.Numbers.{readNumber, nextNumber, reasonNumber, answerNumber, Differs, OfForm, CheckTable, ReadTable, SetTable, Room, StartTable, ConvertTable, NextTable, ReasonTable, Buffers, Sound, FinishTable, FeedTable}
 
 -- ---- the message check
 module _ (m : List ℕ) where
@@ -175,6 +181,29 @@ next-table s start = go (ltb (length s) start) refl (divide (drop start s) 0)
     go true p d = inl (refl, ltb-true (length s) start p)
     go false p (last g) = inr (refl, ltb-false (length s) start p)
     go false p (onward g m d) = inr (refl, ltb-false (length s) start p)
+
+-- ---- the reason at a position
+said-number : (c : Claim) (xs : List ℕ) → reasonNumber (saidBy c xs) ≡ 0
+unfolding saidBy summed
+said-number Nothing xs = refl
+said-number (AtLeast k) xs = refl
+said-number (Long n) xs = go (leb n (length xs)) (eqb (residueOf n xs) 0)
+  where
+    go : (a b : Bool) → reasonNumber (cond a (cond b (Given n) (Checksum (residueOf n xs))) (CutShort (n - length xs))) ≡ 0
+    go true true = refl
+    go true false = refl
+    go false b = refl
+
+pub reason-table : (s : List ℕ) (p : ℕ) → ReasonTable s p (reasonNumber (reasonOf s p))
+unfolding reasonOf
+reason-table s p = go (ltb p (length s)) refl (ltb (coverOf s p) p)
+  where
+    go : (a : Bool) → ltb p (length s) ≡ a → (b : Bool) → ReasonTable s p (reasonNumber (cond a (cond b (Inside (coverOf s p)) (hereOf (drop p s))) (NoReason PastEnd)))
+    go false e b = inl (refl, ltb-false p (length s) e)
+    go true e true = inr (refl, ltb-true p (length s) e)
+    go true e false =
+        let l = ltb-true p (length s) e in
+        inr (rw (here-some (drop p s) (λ z. omega (arith, length-drop p s))) (said-number (claim (drop p s)) (drop p s)), l)
 
 -- ---- the stream reader
 module _ (s : State) (w o : List ℕ) where

@@ -3,6 +3,7 @@ pub mod Fields
 pub mod Again
 pub mod Run
 pub mod Given
+pub mod Reason
 pub mod Numbers
 pub mod Calls
 pub mod InPlace

@@ -21,6 +21,8 @@ use Rattle.compose.specs.Answers.{writtenNumber}
 use Rattle.compose.specs.Convert.{allowed}
 use Rattle.division.specs.declared.Next.{Next}
 use Rattle.division.specs.declared.Next.the-variants.{Refused as NotFound, Message as Found, End as NoneLeft}
+use Rattle.reason.specs.declared.Reason.{Reason}
+use Rattle.reason.specs.declared.Reason.the-variants.{Refused as NoReason, Inside, Given, Sync, CutUnknown, CutShort, Checksum}
 use Rattle.stream.specs.declared.State.{State}
 use Rattle.stream.specs.declared.Answer.{Answer}
 use Rattle.stream.specs.declared.Answer.the-variants.{Refused, NeedsMore, Message, End}
@@ -36,6 +38,15 @@ abbrev pub nextNumber : Next → ℕ
 nextNumber (NotFound r) = numberOf r
 nextNumber (Found p n g) = 0
 nextNumber (NoneLeft g) = 0
+
+abbrev pub reasonNumber : Reason → ℕ
+reasonNumber (NoReason r) = numberOf r
+reasonNumber (Inside q) = 0
+reasonNumber (Given n) = 0
+reasonNumber (Sync k) = 0
+reasonNumber CutUnknown = 0
+reasonNumber (CutShort n) = 0
+reasonNumber (Checksum residue) = 0
 
 abbrev pub answerNumber : Answer → ℕ
 answerNumber (Refused r) = numberOf r
@@ -92,6 +103,10 @@ ConvertTable g m out n = AfterCheck (λ f k i. ((i ≡ 7) × (allowed f g ≡ fa
 -- 12 the start is past the end of the slice
 abbrev pub NextTable : List ℕ → ℕ → ℕ → Type 0
 NextTable s start n = ((n ≡ 12) × (length s < start)) ⊎ ((n ≡ 0) × (start ≤ length s))
+
+-- 12 the position is at the end or past it
+abbrev pub ReasonTable : List ℕ → ℕ → ℕ → Type 0
+ReasonTable s p n = ((n ≡ 12) × (length s ≤ p)) ⊎ ((n ≡ 0) × (p < length s))
 
 -- 8 window or output has fewer than 6,136 bytes; 9 a held count above 6,136, a total above 2^48, or gap + held above total
 abbrev pub Buffers : List ℕ → List ℕ → Type 0
