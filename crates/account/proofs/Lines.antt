@@ -1,10 +1,9 @@
 -- The lines of some positions and of those behind them are the lines of all. Assumes nothing.
 use Prim.Native.Nat.{ℕ, zero, suc, _+_, _-_, _≤_, _<_}
 use mathlib.Core.Path.{_≡_, refl, sym, ap, ap₂, _∙_}
-use mathlib.Core.List.{List, [], _∷_, _++_, append-assoc, append-nil}
+use mathlib.Core.List.{List, [], _++_, append-assoc, append-nil}
 use native.Mathlib.Omega.{arith}
 use native.Mathlib.Nat.{add-zero, zero-add}
-use lib.ListN.{length}
 use Rattle.reason.specs.declared.Reason.{Reason}
 use Rattle.reason.specs.Reason.{reasonOf}
 use Rattle.account.specs.Account.{reasonText, linesOf}

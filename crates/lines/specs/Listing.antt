@@ -1,6 +1,6 @@
 -- The listing's lines, as 01 has them. Definitions only.
 use Prim.Native.Nat.{ℕ}
-use mathlib.Core.List.{List, [], _∷_, _++_}
+use mathlib.Core.List.{List, [], _++_}
 use lib.ListN.{length}
 use Rattle.text.specs.Word.{word}
 use Rattle.text.specs.Columns.{space, newline, numberText, countText}

@@ -3,7 +3,7 @@ use Prim.Native.Nat.{ℕ, suc, _+_, _-_, _≤_, _<_}
 use mathlib.Core.Path.{_≡_, refl, sym, ap, _∙_}
 use mathlib.Core.Bool.{Bool, true, false, cond}
 use mathlib.Core.Logic.{_⊎_, inl, inr, ⊎-elim}
-use mathlib.Core.List.{List, [], _∷_, _++_}
+use mathlib.Core.List.{List, _++_}
 use native.Mathlib.Omega.{arith}
 use lib.ListN.{length, getD, take, drop, take-append-drop}
 use lib.Seq.{take-all}
@@ -19,7 +19,6 @@ use Rattle.macm.specs.Form.{newSync, oldSync, countAt, size}
 use Rattle.front.specs.declared.Claim.{Claim}
 use Rattle.front.specs.declared.Claim.the-variants.{Nothing, AtLeast, Long}
 use Rattle.front.specs.Claim.{cap, counted, claimBy, claim}
-use Rattle.division.specs.Walk.{further}
 use Rattle.reason.specs.Reason.{common, wrongAt}
 use Rattle.promises.specs.Reason.{syncOf, FitsNeither, EndsBeforeCount, Claims}
 use Rattle.promises.proofs.Fits.{take-fewer, common-take, take-common, FitSays, fit-says, begins-part}

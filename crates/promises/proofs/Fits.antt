@@ -7,7 +7,7 @@ use native.Mathlib.Omega.{arith}
 use lib.ListN.{length, getD, take}
 use lib.Seq.{take-take}
 use lib.Dec.{eqb}
-use borrow.Author.Tests.{eqb-true, eqb-false, eq-eqb}
+use borrow.Author.Tests.{eqb-true, eq-eqb}
 use Rattle.octets.specs.Begins.{fit}
 use Rattle.octets.specs.declared.Fit.{Fit}
 use Rattle.octets.specs.declared.Fit.the-variants.{Whole, Part, Bad}

@@ -1,14 +1,14 @@
 -- The reason at a position of a recording is true of the division and the bytes, and no other is. Assumes nothing.
 use Prim.Native.Nat.{ℕ, _+_, _-_, _≤_, _<_}
 use mathlib.Core.Path.{_≡_, refl, sym, ap, _∙_}
-use mathlib.Core.Logic.{_⊎_, inl, inr}
+use mathlib.Core.Logic.{inl, inr}
 use mathlib.Core.Bool.{Bool, true, false, cond}
 use mathlib.Core.List.{List}
 use native.Mathlib.Omega.{arith}
 use lib.ListN.{length, take, drop, length-drop}
 use lib.Seq.{length-take-le, getD-drop}
 use lib.Dec.{ltb, leb, eqb}
-use borrow.Author.Tests.{ltb-true, ltb-false, lt-ltb, le-ltb, leb-true, leb-false, eqb-false}
+use borrow.Author.Tests.{ltb-true, ltb-false, le-ltb, leb-true, leb-false, eqb-false}
 use Rattle.octets.specs.Numbers.{Bytes}
 use Rattle.front.specs.declared.Claim.{Claim}
 use Rattle.front.specs.declared.Claim.the-variants.{Nothing, AtLeast, Long}
@@ -21,7 +21,7 @@ use Rattle.reason.proofs.HereSteps.{here-none, here-some, here-sync, here-unkno
 use Rattle.reason.proofs.HereStands.{Stands, here-stands}
 use Rattle.reason.proofs.CoverSteps.{at-end, at-inside}
 use Rattle.promises.specs.Given.{Given, Uncovered}
-use Rattle.promises.specs.Reason.{messages, Free, FitsNeither, EndsBeforeCount, Claims, ChecksumOff, Holds, CoverBegins}
+use Rattle.promises.specs.Reason.{messages, Free, Holds, CoverBegins}
 use Rattle.promises.proofs.Stands.{stands-le}
 use Rattle.promises.proofs.GivenIff.{apart, given-stands, stands-given}
 use Rattle.promises.proofs.ClaimSays.{ClaimSays, claim-says, claims-long, ends-at-least, neither-nothing}

@@ -1,5 +1,5 @@
 -- The reason at the first byte says a message is given exactly where the division has one. Assumes nothing.
-use Prim.Native.Nat.{ℕ, _+_, _-_, _≤_, _<_}
+use Prim.Native.Nat.{ℕ, _+_, _-_, _≤_}
 use mathlib.Core.Path.{_≡_, refl, sym, ap, _∙_}
 use mathlib.Core.Bool.{Bool, true, false, cond}
 use mathlib.Core.List.{List, [], _∷_}
@@ -21,7 +21,7 @@ use Rattle.division.specs.Division.{lengthOf, stands}
 use Rattle.division.proofs.DivideSteps.{look-nil}
 use Rattle.reason.specs.declared.Reason.{Reason}
 use Rattle.reason.specs.declared.Reason.the-variants.{Refused, Inside, Given, Sync, CutUnknown, CutShort, Checksum}
-use Rattle.reason.specs.Reason.{wrongAt, residueOf, summed, saidBy, hereOf}
+use Rattle.reason.specs.Reason.{residueOf, summed, saidBy, hereOf}
 
 -- how long the message is that stands there, by the reason
 abbrev pub Stands : List ℕ → Reason → Type 0

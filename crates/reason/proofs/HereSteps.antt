@@ -3,11 +3,10 @@ use Prim.Native.Nat.{ℕ, suc, _+_, _-_, _≤_, _<_}
 use mathlib.Core.Path.{_≡_, refl, sym, ap, ap₂, _∙_}
 use mathlib.Core.List.{List, [], _∷_}
 use native.Mathlib.Omega.{arith}
-use native.Mathlib.Numerals.{add-one}
 use lib.ListN.{length, getD, take, drop, length-drop}
 use lib.Seq.{take-suc, getD-drop}
 use lib.Bits.{bitXor}
-use borrow.Author.Tests.{lt-ltb, le-ltb, le-leb, lt-leb, eq-eqb, ne-eqb}
+use borrow.Author.Tests.{le-leb, lt-leb, eq-eqb, ne-eqb}
 use Rattle.octets.specs.Checksum.{checksumFrom, checksumOf}
 use Rattle.octets.proofs.ExclusiveOr.{checksum-append}
 use Rattle.refusal.specs.declared.Refusal.the-variants.{PastEnd}
@@ -15,7 +14,6 @@ use Rattle.front.specs.declared.Claim.{Claim}
 use Rattle.front.specs.declared.Claim.the-variants.{Nothing, AtLeast, Long}
 use Rattle.front.specs.Claim.{claim}
 use Rattle.front.proofs.Bounds.{ClaimFact, claim-fact}
-use Rattle.reason.specs.declared.Reason.{Reason}
 use Rattle.reason.specs.declared.Reason.the-variants.{Refused, Given, Sync, CutUnknown, CutShort, Checksum}
 use Rattle.reason.specs.Reason.{wrongAt, residueOf, summed, saidBy, hereOf}
 

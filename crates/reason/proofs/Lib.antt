@@ -1,4 +1,5 @@
 pub mod HereSteps
 pub mod HereStands
 pub mod CoverSteps
+pub mod Worked
 pub mod Determined

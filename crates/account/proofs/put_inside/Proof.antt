@@ -1,6 +1,6 @@
 -- `account::put_inside` meets its contract: before each turn the lines up to its position are put. Assumes nothing.
 use Prim.Native.Nat.{suc, _+_, _-_, _≤_}
-use mathlib.Core.Path.{_≡_, sym, ap, _∙_}
+use mathlib.Core.Path.{_≡_}
 use native.Mathlib.Omega.{arith}
 use Rattle.text.specs.Put.{Puts}
 use Rattle.text.proofs.PutLaws.{puts-none, puts-join, puts-length}

@@ -1,5 +1,4 @@
 -- `reason::sum` meets its contract. Assumes nothing.
-use mathlib.Core.Path.{sym, _∙_}
 use Rattle.reason.proofs.HereSteps.{residue-last, sum-given, sum-off}
 use borrow.Author.Needs.{needs}
 use Rattle.reason.proofs.sum.Statement.{statement}
