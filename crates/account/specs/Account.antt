@@ -1,7 +1,9 @@
 -- The lines of an account: each position of a recording, its reason and the reason's value. Definitions only.
 use Prim.Native.Nat.{ℕ, zero, suc, _+_}
+use mathlib.Core.Bool.{cond}
 use mathlib.Core.List.{List, [], _∷_, _++_}
 use lib.ListN.{length}
+use lib.Dec.{ltb}
 use Rattle.text.specs.Word.{word}
 use Rattle.text.specs.Digits.{digits}
 use Rattle.text.specs.Columns.{space, newline, numberText, countText}
@@ -31,3 +33,7 @@ linesOf reason from (suc k) = linesOf reason from k ++ reasonText (from + k) (re
 -- every position of the recording in turn
 abbrev pub accountText : List ℕ → List ℕ
 accountText s = linesOf (reasonOf s) 0 (length s)
+
+-- with a heading; of a recording of more than 61,440 bytes no more than that it is longer
+abbrev pub reportText : List ℕ → List ℕ
+reportText s = cond (ltb 61440 (length s)) (word "longer than 61440 bytes\n") (word "at reason value\n" ++ accountText s)

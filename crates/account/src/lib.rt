@@ -1,9 +1,9 @@
-// The account of a recording: the reason of each position, a line each, put into a lent buffer as `text` puts numbers.
+// The account of a short recording: the reason of each position, a line each, put into a lent buffer as `text` puts numbers.
 use reason::Reason;
 ghost use mathlib.Core.Path.{_≡_};
 ghost use Prim.Native.Nat.{_+_, _-_, _<_};
 ghost use Rattle.text.specs.Put.{Puts};
-ghost use Rattle.account.specs.Account.{saidText, reasonText, linesOf, accountText};
+ghost use Rattle.account.specs.Account.{saidText, reasonText, linesOf, accountText, reportText};
 ghost use Rattle.account.specs.Steps.{spanOf, insideOf};
 
 // ---- a line
@@ -38,7 +38,7 @@ fn put_said(out: &mut [u8], at: usize, reason: Reason) -> usize
 }
 
 // The line of a position.
-pub fn put_reason(out: &mut [u8], at: usize, position: u64, reason: Reason) -> usize
+fn put_reason(out: &mut [u8], at: usize, position: u64, reason: Reason) -> usize
     ensures { λ r. ⌜ Puts (now (out .entry)) at (reasonText position reason) r (now (out .exit)) ⌝ }
 {
     let next = text::put_number(out, at, position, b' ');
@@ -72,7 +72,7 @@ fn put_inside(out: &mut [u8], at: usize, start: usize, end: usize) -> usize
 }
 
 // The lines of every position, in one passage over the recording.
-pub fn put_account(out: &mut [u8], at: usize, recording: &[u8]) -> usize
+fn put_account(out: &mut [u8], at: usize, recording: &[u8]) -> usize
     ensures { λ r. ⌜ Puts (now (out .entry)) at (accountText (now (recording .entry))) r (now (out .exit)) ⌝ }
 {
     let mut next = at;
@@ -85,4 +85,15 @@ pub fn put_account(out: &mut [u8], at: usize, recording: &[u8]) -> usize
         position = end;
     }
     next
+}
+
+// All that is said of a recording: a heading and its lines, or that it is longer than an account may be.
+pub fn put_report(out: &mut [u8], at: usize, recording: &[u8]) -> usize
+    ensures { λ r. ⌜ Puts (now (out .entry)) at (reportText (now (recording .entry))) r (now (out .exit)) ⌝ }
+{
+    if recording.len() > 61440 {
+        return text::put_all(out, at, b"longer than 61440 bytes\n");
+    }
+    let next = text::put_all(out, at, b"at reason value\n");
+    put_account(out, next, recording)
 }

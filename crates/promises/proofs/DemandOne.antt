@@ -197,10 +197,9 @@ pub text-asks-nothing :
     × AsksNothing lines.put_line.ended lines.put_line.Reads.Asked
     × AsksNothing lines.put_end.ended lines.put_end.Reads.Asked
     × AsksNothing lines.put_rows.ended lines.put_rows.Reads.Asked
-    × AsksNothing account.put_reason.ended account.put_reason.Reads.Asked
-    × AsksNothing account.put_account.ended account.put_account.Reads.Asked
+    × AsksNothing account.put_report.ended account.put_report.Reads.Asked
 text-asks-nothing =
-    ((λ κs a. tt), (λ κs a. tt), (λ κs a. tt), (λ κs a. tt), (λ κs a. tt), (λ κs a. tt), (λ κs a. tt), (λ κs a. tt), (λ κs a. tt), (λ κs a. tt), (λ κs a. tt), (λ κs a. tt), (λ κs a. tt), (λ κs a. tt), (λ κs a. tt))
+    ((λ κs a. tt), (λ κs a. tt), (λ κs a. tt), (λ κs a. tt), (λ κs a. tt), (λ κs a. tt), (λ κs a. tt), (λ κs a. tt), (λ κs a. tt), (λ κs a. tt), (λ κs a. tt), (λ κs a. tt), (λ κs a. tt), (λ κs a. tt))
 
 -- the two over a lent state are walked by hand and so have no `Reads`: their `requires` is empty in every model of the logic
 pub cs-feed-asks-nothing : (w : World) (κs : Lfts 4) (a : Args board.cs_feed.signature κs) → board.cs_feed.clauses (w .𝓤) (w .H) (w .𝓖 .A) (w .𝓜 .mem) (w .𝓡 .run) κs a .requires tt ≡ emp (w .𝓤)

@@ -226,19 +226,10 @@ fn fill(buffer: &mut [u8]) -> usize {
     count
 }
 
-// The heading and a line for each position; of a recording that is too long, that it is.
-fn put_reasons(text: &mut [u8], recording: &[u8]) -> usize {
-    if recording.len() > 61440 {
-        return text::put_all(text, 0, b"longer than 61440 bytes\n");
-    }
-    let next = text::put_all(text, 0, b"at reason value\n");
-    account::put_account(text, next, recording)
-}
-
 // One byte more than fits is read, to see whether the recording is longer.
 fn print_reasons(recording: &mut [u8], text: &mut [u8]) {
     let count = fill(recording);
-    let waiting = put_reasons(text, text::front(recording, count));
+    let waiting = account::put_report(text, 0, part(recording, 0, count));
     write_out(text, waiting);
 }
 
