@@ -47,8 +47,7 @@ announce() {
 through() {
     reader=$1
     shift
-    rm -f "$work/printed"
-    mkfifo "$work/printed" || fail "no pipe can be made in $work"
+    make_pipe printed
     "$reader" <"$work/printed" &
     reading=$!
     await setsid "$@" >"$work/printed" 2>&1
