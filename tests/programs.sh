@@ -21,6 +21,43 @@ printf 'at bytes form obs time\nend 0 messages 0 gap 0\n' >target/empty.listing
 cat samples/sortie.macm | ./cablesound list /dev/stdin | cmp -s - samples/sortie.listing || fail "list of a pipe"
 ln -sf ../cablesound target/linked && target/linked list samples/sortie.macm | cmp -s - samples/sortie.listing || fail "list by a link to the command"
 
+# Why: of every position, or of one, which is the same line.
+for _ in 1 2 3 4 5 6 7 8; do cat samples/sortie.macm; done >target/long.macm
+./cablesound why crates/why/stdin | cmp -s - crates/why/stdout || fail "why prints something else than crates/why/stdout"
+./cablesound why <crates/why/stdin | cmp -s - crates/why/stdout || fail "why prints something else from standard input"
+[ "$(./cablesound why target/long.macm)" = 'longer than 61440 bytes' ] || fail "why of a long recording"
+
+# FILE POSITION...: the line of each of these positions is the one that stands among those of all
+alone() {
+    recording=$1
+    shift
+    for position in "$@"; do
+        line=$(./cablesound why "$recording" "$position")
+        [ -n "$line" ] && [ "$line" = "$(sed -n "$((position + 2))p" target/reasons)" ] || fail "why of $recording at $position prints: $line"
+    done
+}
+
+printf 'MACMAC2\000\000\000\016\240\014\220\100\174\020\000\036' >target/s12.macm
+./cablesound why target/s12.macm >target/reasons
+alone target/s12.macm 0 1 2 3 4 5 6 7 8 9 10 11 12 13 14 15 16 17 18
+./cablesound why samples/sortie.macm >target/reasons
+alone samples/sortie.macm $(awk 'NR > 1 && !seen[$2 == "sync" ? $2 $3 : $2]++ { print $1 }' target/reasons) 13418
+
+# Longer recordings, of which the disk holds no more than what is not zero. Past the end of the second nothing is read.
+cp target/s12.macm target/big.macm && truncate -s 1G target/big.macm && cat target/s12.macm >>target/big.macm || exit 2
+[ "$(./cablesound why target/big.macm 3)" = '3 given 16' ] || fail "why of a big recording's beginning"
+[ "$(./cablesound why target/big.macm 01073741828)" = '1073741828 inside 1073741827' ] || fail "why of a big recording's end"
+if truncate -s 1T target/endless.macm 2>/dev/null; then
+    says 1 'cablesound: position 1099511627776 is at or past the end: target/endless.macm has 1099511627776 bytes' \
+        timeout 20 ./cablesound why target/endless.macm 1099511627776
+fi
+rm -f target/endless.macm
+rm -rf target/names && mkdir target/names && cp target/s12.macm target/names/-s12 && cp target/s12.macm 'target/names/a name' && ln -s ../s12.macm target/names/link || exit 2
+for name in -s12 'a name' link; do
+    [ "$(cd target/names && ../../cablesound why "$name" 4)" = '4 inside 3' ] || fail "why of a file that is called '$name'"
+done
+[ "$(./cablesound why /dev/stdin 3 <target/s12.macm)" = '3 given 16' ] || fail "why of standard input that is a file"
+
 # Bad input and output that cannot be written: a line and a status.
 says 1 'cablesound: no such file: no/such/file' ./cablesound list no/such/file
 says 1 'cablesound: this is a folder: samples' ./cablesound list samples
@@ -35,14 +72,31 @@ shell_says 1 'error: standard output: Bad file descriptor' './cablesound list sa
 shell_says 0 'error: standard input: Bad file descriptor' 'target/bin/listing <&-'
 says 2 "$(printf 'cablesound: no such command: list rows\n' && ./cablesound help)" ./cablesound 'list rows'
 shell_says 1 'cablesound: standard output cannot be written' './cablesound help >/dev/full'
+for word in '' -1 +1 1.5 abc 0x10 ' 1'; do
+    says 1 "cablesound: the position has to be a number in decimal digits: '$word'" ./cablesound why target/s12.macm "$word"
+done
+for position in 19 20 9007199254740993 18446744073709551616 123456789012345678901234567890; do
+    says 1 "cablesound: position $position is at or past the end: target/s12.macm has 19 bytes" ./cablesound why target/s12.macm "$position"
+done
+: >target/empty.macm
+says 1 'cablesound: position 0 is at or past the end: target/empty.macm has 0 bytes' ./cablesound why target/empty.macm 00
+[ "$(./cablesound why target/empty.macm)" = 'at reason value' ] || fail "why of nothing"
+rm -f target/line && mkfifo target/line || exit 2
+says 1 'cablesound: a position needs a file that can be read from the middle: target/line' timeout 20 ./cablesound why target/line 3
+shell_says 1 'cablesound: a position needs a file that can be read from the middle: /dev/stdin' 'cat target/s12.macm | ./cablesound why /dev/stdin 3'
+says 1 'cablesound: no such file: no/such/file' ./cablesound why no/such/file 3
+says 1 'cablesound: this is a folder: samples' ./cablesound why samples 3
+says 1 'cablesound: one recording and one position at a time: ./cablesound why [FILE [POSITION]]' ./cablesound why target/s12.macm 3 4
+shell_says 1 'cablesound: standard output cannot be written' './cablesound why target/s12.macm 3 >/dev/full'
+shell_says 1 'error: standard output: No space left on device' './cablesound why samples/sortie.macm >/dev/full'
+shell_says 1 'error: standard input: Is a directory' './cablesound why <samples'
 
 # A reader that goes away early is no error: more is printed than a pipe holds.
-for _ in 1 2 3 4 5 6 7 8; do cat samples/sortie.macm; done >target/long.macm
 shell_says 0 '' './cablesound rows target/long.macm | head -n 1'
 shell_says 0 '' 'trap "" PIPE; ./cablesound rows target/long.macm | head -n 1'
+shell_says 0 '' './cablesound why samples/sortie.macm | head -n 1'
 
 # A live line: what has come is printed while the line is open, and the program ends with the command that runs it.
-rm -f target/line && mkfifo target/line || exit 2
 ./cablesound rows <target/line >target/line.rows &
 live=$!
 exec 7>target/line
@@ -61,4 +115,4 @@ for command in $(./cablesound help | sed -n 's/^  \.\/cablesound \([a-z]*\).*/\1
     ./cablesound "$command" --help | cmp -s - target/said.out || fail "$command --help is not its help"
 done
 [ "${command:-}" = help ] || fail "help does not list the commands"
-echo "programs: list and rows print what the second reader prints, also on a live line, and say what they cannot read"
+echo "programs: list, rows and why print what the second reader prints, list and rows also on a live line, and they say what they cannot read"

@@ -29,6 +29,8 @@ cd "$work" || exit 2
 cmp -s "$release/samples/sortie.macm" "$sample.macm" || fail "the sample recording is another"
 "$release/cablesound" list "$release/samples/sortie.macm" | cmp -s - "$sample.listing" || fail "list prints something else"
 "$release/cablesound" rows <"$sample.macm" | cmp -s - "$sample.rows" || fail "rows prints something else"
+"$release/cablesound" why "$root/crates/why/stdin" | cmp -s - "$root/crates/why/stdout" || fail "why prints something else"
+[ "$("$release/cablesound" why "$release/samples/sortie.macm" 31)" = '31 inside 30' ] || fail "why of a position prints something else"
 "$release/cablesound" help | grep -q ' bench' && fail "help offers what a release has not"
 said=$("$release/cablesound" test 2>&1) && fail "test succeeds in a release"
 [ "$said" = 'cablesound: test works in the project alone, and this is a release' ] || fail "test says: $said"
@@ -71,4 +73,30 @@ exec 7>line
 "$root/tests/soon" grep -qx 'error: early' said.txt || fail "a line on standard error is kept back"
 exec 7>&-
 wait $! && fail "an early error is forgotten"
+
+# STATUS TEXT WORDS: where the program `listing` is these words of the shell, why of a position ends with this status and prints or says this text
+answers() {
+    printf '#!/bin/sh\necho "at bytes form obs time"\n%s\n' "$3" >"$release/listing"
+    timeout 20 "$release/cablesound" why "$sample.macm" 31 >said.txt 2>&1
+    ended=$?
+    [ "$ended" -eq "$1" ] || fail "why of a position ends with $ended where listing is: $3"
+    [ "$(cat said.txt)" = "$2" ] || fail "why of a position says '$(cat said.txt)' where listing is: $3"
+}
+
+# One position: where the answer is known the listing is over, unless whoever runs this has all programs ignore the signal.
+if ! sh -c 'kill -s PIPE $$' 2>/dev/null; then
+    answers 0 '31 inside 30' 'echo 30 112 v2 4 0; exec sleep 60'
+    answers 0 '31 sync 1' 'echo 32 112 v2 4 0; exec sleep 60'
+fi
+answers 0 '31 sync 1' 'echo 4 27 v2 0 0; echo end 13419 messages 1 gap 13392'
+answers 1 "cablesound: position 31 is at or past the end: $sample.macm has 31 bytes" 'echo end 31 messages 0 gap 31'
+answers 1 'error: this failed' 'echo "error: this failed" >&2; echo end 40 messages 0 gap 40'
+answers 1 "cablesound: the listing breaks off: $sample.macm" 'echo 4 15 v1 0 0'
+printf '#!/bin/sh\necho $$ >listing.pid\nexec sleep 60\n' >"$release/listing"
+"$release/cablesound" why "$sample.macm" 31 >said.txt 2>&1 &
+use=$!
+"$root/tests/soon" test -s listing.pid || fail "why of a position runs no listing"
+kill "$use" && wait "$use" 2>/dev/null
+[ $? -eq 143 ] || fail "why of a position does not end by the signal that it is sent"
+"$root/tests/soon" sh -c '! kill -0 "$(cat listing.pid)" 2>/dev/null' || fail "a listing outlives the command"
 echo "release: build/ works in another folder without rt; lines that begin with 'error: ' make status 1"

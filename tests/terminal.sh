@@ -33,6 +33,9 @@ said=$(terminal 'cat recording | ./cablesound rows >printed')
 printf '#!/bin/sh\nsleep 0.9\necho "error: late" >&2\n' >rows
 said=$(terminal './cablesound rows recording >printed')
 [ "$said" = "$(printf 'cablesound: 0 %% of 1 MB\nerror: late')" ] || fail "an error behind what is shown reads: $said"
+printf '#!/bin/sh\nhead -c 500000 >/dev/null\nsleep 0.8\nprintf "at bytes form obs time\\n999990 15 v1 0 0\\n"\n' >listing
+said=$(terminal './cablesound why recording 999980')
+[ "$said" = "$(printf 'cablesound: 50 %% of 1 MB\n999980 sync 1')" ] || fail "why of a position shows: $said"
 
 # ---- the first use, in a project of three crates and one more
 mkdir "$work/project" "$work/bin" && cd "$work/project" || exit 2
