@@ -35,7 +35,7 @@ enum {
     CS_BAD_STATE = 9,      /* a state with held above CS_LONGEST, total above CS_STREAM_BYTES, or gap + held above total */
     CS_ENDED = 10,         /* feeding after the first accepted finish */
     CS_TOO_LONG = 11,      /* the stream would be longer than CS_STREAM_BYTES */
-    CS_PAST_THE_END = 12   /* the start is past the recording's end */
+    CS_PAST_THE_END = 12   /* cs_next: the start is past the recording's end; cs_why: the position is at the end or past it */
 };
 
 /* The form of a message. */
@@ -43,6 +43,17 @@ enum { CS_OLD = 1, CS_NEW = 2 };
 
 /* The kind of an answer. cs_found has the last two alone. */
 enum { CS_NEEDS_MORE = 0, CS_MESSAGE = 1, CS_END = 2 };
+
+/* The kind of a reason, in the order in which they are tried: the first that holds is answered. 7 is kept free for a count above a cap, which will stand
+ * behind CS_SYNC in that order. */
+enum {
+    CS_INSIDE = 1,      /* the position lies inside a given message, behind its first byte; value: where that message begins */
+    CS_GIVEN = 2,       /* a message is given here; value: its length */
+    CS_SYNC = 3,        /* a byte of the sync fits neither form; value: the first such byte, 1 to 4 */
+    CS_CUT_UNKNOWN = 4, /* the recording ends before the count byte; value: 0, since nobody knows how many bytes are missing */
+    CS_CUT_SHORT = 5,   /* the recording ends before the message does; value: how many bytes are missing, at least 1 */
+    CS_CHECKSUM = 6     /* the checksum is off; value: the exclusive or of byte 5 up to and with the checksum, never 0 */
+};
 
 /* The kind of a phase. */
 enum { CS_WITHHELD = 0, CS_NOT_FINITE = 1, CS_CYCLES = 2 };
@@ -56,6 +67,9 @@ typedef struct { uint64_t refusal, kind, length, gap, taken; } cs_answer;
 
 /* What cs_next answers: the message's place in the whole recording, its length, the gap bytes before it; at the end the gap bytes that are left. */
 typedef struct { uint64_t refusal, kind, position, length, gap; } cs_found;
+
+/* What cs_why answers: the kind of the reason and its value. */
+typedef struct { uint64_t refusal, kind, value; } cs_reason;
 
 /* A header. version is the old form's alone, signal (TYPE) and tfom the new form's; cs_read answers 0 for the other form's. time is in GNSS
  * milliseconds; offset is OFFSET's 32 bits, a binary32 in metres. */
@@ -106,6 +120,11 @@ cs_written cs_to_old(const uint8_t *message, size_t length, uint8_t version, uin
 
 /* The next message at or behind the start, in a recording that is all there. Start at 0, then at position + length. Refuses with 12. */
 cs_found cs_next(const uint8_t *recording, size_t length, size_t start);
+
+/* Why a position of a recording that is all there is the first byte of a given message, or is not. Refuses with 12, also a position equal to the length,
+ * though cs_next takes such a start: no byte stands there. Every call goes over the recording from its front. Of many positions, find the messages with
+ * cs_next and ask of a byte between them with the recording from that byte on, at position 0: what is said of it depends on the bytes from it on alone. */
+cs_reason cs_why(const uint8_t *recording, size_t length, size_t position);
 
 /* A new reader's state. The window needs nothing in it. */
 cs_state cs_fresh(void);

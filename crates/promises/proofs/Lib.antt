@@ -23,6 +23,7 @@ pub mod Located
 pub mod FirstBytes
 pub mod ReasonHolds
 pub mod ReasonOfPart
+pub mod Room
 pub mod PlainSame
 pub mod Checked
 pub mod Left
