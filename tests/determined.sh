@@ -1,7 +1,7 @@
 #!/bin/sh
 # Every public function of a library has its theorem NAME-determined in its own crate's proofs/Determined.antt, stated of that function's own contract,
 # or, for an entry over a lent struct, of the claim NAME-learnt that is read off its own clauses there; or a line `CRATE::NAME: why` under the exceptions
-# of docs/PROMISES.md. And docs/PROMISES.md names it in its crate's row, and demand 1's file says that it asks nothing, but for the programs' own two.
+# of docs/PROMISES.md. And docs/PROMISES.md names it in its crate's row, and demand 1's file says that it asks nothing, but for the programs' own.
 # This reads text only: that the theorems hold is rt's to say.
 set -u
 root=$(cd "$(dirname "$0")/.." && pwd -P)
