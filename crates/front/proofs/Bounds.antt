@@ -3,14 +3,15 @@
 use Prim.Native.Nat.{ℕ, suc, _+_, _*_, _≤_, _<_}
 use mathlib.Core.Path.{_≡_, refl}
 use mathlib.Core.Bool.{Bool, true, false, cond}
-use mathlib.Core.List.{List, [], _∷_}
+use mathlib.Core.List.{List}
 use native.Mathlib.Omega.{arith}
 use lib.ListN.{length, getD, take}
-use lib.Dec.{ltb, leb, eqb}
+use lib.Dec.{ltb, leb}
 use borrow.Author.Tests.{ltb-false, leb-true, leb-false}
 use Rattle.octets.specs.Begins.{fit}
 use Rattle.octets.specs.declared.Fit.{Fit}
 use Rattle.octets.specs.declared.Fit.the-variants.{Whole, Part, Bad}
+use Rattle.octets.proofs.Begins.{Fits, fit-common}
 use Rattle.macm.specs.declared.Form.{Form}
 use Rattle.macm.specs.declared.Form.the-variants.{New, Old}
 use Rattle.macm.specs.Form.{newSync, oldSync, countAt, size}
@@ -23,23 +24,6 @@ use Rattle.front.specs.Look.{Look, unsettled, gap, message, judged, look
 -- the bytes of the longest message
 abbrev pub most : ℕ
 most = 16 + 24 * cap
-
-abbrev pub FitFact : List ℕ → List ℕ → Fit → Type 0
-FitFact t xs Whole = Unit
-FitFact t xs Part = length xs < length t
-FitFact t xs Bad = Unit
-
-pub fit-fact : (t xs : List ℕ) → FitFact t xs (fit t xs)
-unfolding fit
-fit-fact [] xs = tt
-fit-fact (t ∷ ts) [] = omega arith
-fit-fact (t ∷ ts) (x ∷ xs) = go (eqb x t) (fit ts xs) (fit-fact ts xs)
-  where
-    go : (b : Bool) (f : Fit) → FitFact ts xs f → FitFact (t ∷ ts) (x ∷ xs) (cond b f Bad)
-    go true Whole h = tt
-    go true Part h = omega arith
-    go true Bad h = tt
-    go false f h = tt
 
 abbrev pub ClaimFact : List ℕ → Claim → Type 0
 ClaimFact xs Nothing = Unit
@@ -58,13 +42,13 @@ counted-fact f xs low high = go (ltb (countAt f) (length xs)) refl (leb (getD xs
 
 pub claim-fact : (xs : List ℕ) → ClaimFact xs (claim xs)
 unfolding claim claimBy
-claim-fact xs = go (fit newSync xs) (fit oldSync xs) (fit-fact newSync xs) (fit-fact oldSync xs)
+claim-fact xs = go (fit newSync xs) (fit oldSync xs) (fit-common newSync xs) (fit-common oldSync xs)
   where
-    go : (a b : Fit) → FitFact newSync xs a → FitFact oldSync xs b → ClaimFact xs (claimBy a b xs)
+    go : (a b : Fit) → Fits newSync xs a → Fits oldSync xs b → ClaimFact xs (claimBy a b xs)
     go Whole b p q = counted-fact (New 0 0) xs (omega arith) (omega arith)
-    go Part b p q = omega arith
+    go Part b p q = omega (arith, p .1)
     go Bad Whole p q = counted-fact (Old 0) xs (omega arith) (omega arith)
-    go Bad Part p q = omega arith
+    go Bad Part p q = omega (arith, q .1)
     go Bad Bad p q = tt
 
 abbrev pub LookFact : List ℕ → Look → Type 0

@@ -6,6 +6,9 @@ use Rattle.octets.proofs as octets
 pub checksum-determined : Determined octets.checksum.ended octets.checksum.Reads.Learnt
 checksum-determined κs a z z′ w w′ p q = search both
 
+pub common-to-determined : Determined octets.common_to.ended octets.common_to.Reads.Learnt
+common-to-determined κs a z z′ w w′ p q = search both
+
 pub fits-determined : Determined octets.fits.ended octets.fits.Reads.Learnt
 fits-determined κs a z z′ w w′ p q = search both
 

@@ -1,3 +1,4 @@
+pub mod Begins
 pub mod ExclusiveOr
 pub mod Numbers
 pub mod Parts

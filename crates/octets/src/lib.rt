@@ -6,7 +6,7 @@ ghost use Prim.Native.Nat.{_*_, _<_, _≤_, _%_, _^_};
 ghost use lib.IntN.{negsuc};
 ghost use lib.ListN.{length, take, replicate};
 ghost use lib.Signed.{mag};
-ghost use Rattle.octets.specs.Begins.{fit, begins};
+ghost use Rattle.octets.specs.Begins.{common, fit, begins};
 ghost use Rattle.octets.specs.Checksum.{checksumOf};
 ghost use Rattle.octets.specs.Numbers.{number, bytesOf};
 ghost use Rattle.octets.specs.Parts.{over};
@@ -34,21 +34,35 @@ pub fn checksum(s: &[u8]) -> u8
 
 // ---- how a slice begins
 
-// How s begins, held against t.
-pub fn fits(t: &[u8], s: &[u8]) -> Fit
-    ensures { λ r. ⌜ r ≡ fit (now (t .entry)) (now (s .entry)) ⌝ }
+// How many of the first bytes of s are those of t.
+pub fn common_to(t: &[u8], s: &[u8]) -> usize
+    ensures { λ r. ⌜ (r ≡ common (now (t .entry)) (now (s .entry))) × (r ≤ length (now (t .entry))) ⌝ }
 {
     let mut i = 0;
     while i < t.len() {
         if s.len() <= i {
-            return Fit::Part;
+            return i;
         }
         if s[i] != t[i] {
-            return Fit::Bad;
+            return i;
         }
         i += 1;
     }
-    Fit::Whole
+    i
+}
+
+// How s begins, held against t.
+pub fn fits(t: &[u8], s: &[u8]) -> Fit
+    ensures { λ r. ⌜ r ≡ fit (now (t .entry)) (now (s .entry)) ⌝ }
+{
+    let n = common_to(t, s);
+    if n == t.len() {
+        return Fit::Whole;
+    }
+    if n == s.len() {
+        return Fit::Part;
+    }
+    Fit::Bad
 }
 
 // Whether s begins with all of t.

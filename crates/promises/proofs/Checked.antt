@@ -12,6 +12,7 @@ use Rattle.octets.specs.Begins.{fit, isWhole}
 use Rattle.octets.specs.Numbers.{Bytes}
 use Rattle.octets.specs.declared.Fit.{Fit}
 use Rattle.octets.specs.declared.Fit.the-variants.{Whole, Part, Bad}
+use Rattle.octets.proofs.Begins.{Fits, fit-common}
 use Rattle.refusal.proofs.Positive.{positive}
 use Rattle.macm.specs.declared.Form.{Form}
 use Rattle.macm.specs.declared.Form.the-variants.{New, Old}
@@ -26,15 +27,15 @@ use Rattle.front.specs.declared.Claim.the-variants.{Nothing, AtLeast, Long}
 use Rattle.front.specs.Claim.{cap, counted, claimBy, claim}
 use Rattle.front.specs.Look.{unsettled, gap, message, judged, lookBy, look}
 use Rattle.front.proofs.Settled.{keepFit, fit-append}
-use Rattle.front.proofs.Bounds.{FitFact, fit-fact, ClaimFact, claim-fact}
+use Rattle.front.proofs.Bounds.{ClaimFact, claim-fact}
 
 -- a string that is no longer than the first n bytes fits them as it fits all
 fit-front : (t xs : List ℕ) (n : ℕ) → length t ≤ n → n ≤ length xs → fit t (take n xs) ≡ fit t xs
-fit-front t xs n l m = go (fit t (take n xs)) (fit-fact t (take n xs)) (rw take-append-drop at (fit-append t (take n xs) (drop n xs)))
+fit-front t xs n l m = go (fit t (take n xs)) (fit-common t (take n xs)) (rw take-append-drop at (fit-append t (take n xs) (drop n xs)))
   where
-    go : (f : Fit) → FitFact t (take n xs) f → fit t xs ≡ keepFit f (fit t xs) → f ≡ fit t xs
+    go : (f : Fit) → Fits t (take n xs) f → fit t xs ≡ keepFit f (fit t xs) → f ≡ fit t xs
     go Whole h e = sym e
-    go Part h e = absurd (omega (arith, length-take-le n xs m))
+    go Part h e = absurd (omega (arith, h .1, length-take-le n xs m))
     go Bad h e = sym e
 
 module _ (xs : List ℕ) (n : ℕ) (here : n ≤ length xs) where
@@ -127,12 +128,12 @@ module _ (xs : List ℕ) (n : ℕ) (here : n ≤ length xs) (bytes : Bytes xs) w
           let z = is-new (take n xs) (ap isWhole x) ∙ h .form in
           let e : New (getD (take n xs) 4 0) (getD (take n xs) 5 0) ≡ f = cc in
           fine-counted (New 0 0) _ k refl (omega arith) (omega arith) (rw (← e) at h)
-      go Part q x y = absurd (let z = rw x at (fit-fact newSync (take n xs)) in omega (arith, length-take-le n xs here))
+      go Part q x y = absurd (let z : Fits newSync (take n xs) Part = rw x at (fit-common newSync (take n xs)) in omega (arith, z .1, length-take-le n xs here))
       go Bad Whole x y =
           let z = is-old (take n xs) (ap isWhole x) (ap isWhole y) ∙ h .form in
           let e : Old (getD (take n xs) 4 0) ≡ f = cc in
           fine-counted (Old 0) _ k refl (omega arith) (omega arith) (rw (← e) at h)
-      go Bad Part x y = absurd (let z = rw y at (fit-fact oldSync (take n xs)) in omega (arith, length-take-le n xs here))
+      go Bad Part x y = absurd (let z : Fits oldSync (take n xs) Part = rw y at (fit-common oldSync (take n xs)) in omega (arith, z .1, length-take-le n xs here))
       go Bad Bad x y = absurd (let z = is-neither (take n xs) (ap isWhole x) (ap isWhole y) ∙ h .form in let y : _≡_ {A = ℕ} 0 1 = cc in omega arith)
 
 pub checked-message : (xs : List ℕ) (n : ℕ) → Bytes xs → n ≤ length xs → checkNumber (verdict (take n xs)) ≡ 0 → look xs ≡ message n

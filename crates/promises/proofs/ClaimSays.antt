@@ -9,19 +9,19 @@ use lib.ListN.{length, getD, take, drop, take-append-drop}
 use lib.Seq.{take-all}
 use lib.Dec.{ltb, leb}
 use borrow.Author.Tests.{ltb-true, ltb-false, lt-ltb, le-ltb, le-leb}
-use Rattle.octets.specs.Begins.{fit}
+use Rattle.octets.specs.Begins.{common, fit}
 use Rattle.octets.specs.Numbers.{Bytes}
 use Rattle.octets.specs.declared.Fit.{Fit}
 use Rattle.octets.specs.declared.Fit.the-variants.{Whole, Part, Bad}
+use Rattle.octets.proofs.Begins.{take-fewer, common-take, take-common, common-within, Fits, fit-common, common-bad, begins-part}
 use Rattle.macm.specs.declared.Form.{Form}
 use Rattle.macm.specs.declared.Form.the-variants.{New, Old}
 use Rattle.macm.specs.Form.{newSync, oldSync, countAt, size}
 use Rattle.front.specs.declared.Claim.{Claim}
 use Rattle.front.specs.declared.Claim.the-variants.{Nothing, AtLeast, Long}
 use Rattle.front.specs.Claim.{cap, counted, claimBy, claim}
-use Rattle.reason.specs.Reason.{common, wrongAt}
+use Rattle.reason.specs.Reason.{wrongAt}
 use Rattle.promises.specs.Reason.{syncOf, FitsNeither, EndsBeforeCount, Claims}
-use Rattle.promises.proofs.Fits.{take-fewer, common-take, take-common, FitSays, fit-says, begins-part}
 
 abbrev pub ClaimSays : List ℕ → Claim → Type 0
 ClaimSays xs Nothing = FitsNeither xs (wrongAt xs)
@@ -31,7 +31,7 @@ ClaimSays xs (Long n) = Claims xs n
 -- ---- what is claimed is so
 module _ (xs : List ℕ) where
   -- the first bytes that are common to a form's sync string, where both forms are contradicted
-  neither-fits : FitSays newSync xs Bad → FitSays oldSync xs Bad → FitsNeither xs (wrongAt xs)
+  neither-fits : Fits newSync xs Bad → Fits oldSync xs Bad → FitsNeither xs (wrongAt xs)
   neither-fits n o = go (ltb a b) refl
     where
       a : ℕ
@@ -55,10 +55,10 @@ module _ (xs : List ℕ) where
           let l = ltb-false a b e in
           record { from-one = omega arith; to-four = omega (arith, n .0); here = omega (arith, n .1); form = New 0 0; before = rw (less a) (common-take newSync xs); neither = not (suc a) (omega (arith, n .1)) (omega (arith, n .0)) (omega arith) (omega arith) }
 
-  part-ends : (f : Form) → length (syncOf f) ≡ 4 → 4 ≤ countAt f → FitSays (syncOf f) xs Part → EndsBeforeCount xs
-  part-ends f four low h = record { form = f; sync = take-all 4 xs (omega (arith, h .0)) ∙ h .1; ends = omega (arith, h .0) }
+  part-ends : (f : Form) → length (syncOf f) ≡ 4 → 4 ≤ countAt f → Fits (syncOf f) xs Part → EndsBeforeCount xs
+  part-ends f four low h = record { form = f; sync = take-all 4 xs (omega (arith, h .1)) ∙ sym (take-all (length xs) xs (omega arith)) ∙ rw (h .0) at (common-take (syncOf f) xs); ends = omega (arith, h .1) }
 
-  counted-says : (f : Form) → Bytes xs → length (syncOf f) ≡ 4 → FitSays (syncOf f) xs Whole → ClaimSays xs (counted f xs)
+  counted-says : (f : Form) → Bytes xs → length (syncOf f) ≡ 4 → Fits (syncOf f) xs Whole → ClaimSays xs (counted f xs)
   unfolding counted
   counted-says f b four h = go (ltb (countAt f) (length xs)) refl
     where
@@ -66,19 +66,19 @@ module _ (xs : List ℕ) where
       N = getD xs (countAt f) 0
 
       sync : take 4 xs ≡ syncOf f
-      sync = ap (λ k. take k xs) (sym four) ∙ h .1
+      sync = rw (h, four) at (common-take (syncOf f) xs) ∙ take-all 4 (syncOf f) (omega (arith, four))
 
       go : (t : Bool) → ltb (countAt f) (length xs) ≡ t → ClaimSays xs (cond t (cond (leb N cap) (Long (size f N)) Nothing) (AtLeast (suc (countAt f))))
       go true e = rw (le-leb N cap (omega (arith, b (countAt f)))) (record { form = f; sync = sync; counted = ltb-true (countAt f) (length xs) e; long = refl })
       go false e =
-          let z : take (length xs) (syncOf f) ≡ syncOf f = take-all (length xs) (syncOf f) (h .0) in
+          let z : take (length xs) (syncOf f) ≡ syncOf f = take-all (length xs) (syncOf f) (omega (arith, h, common-within (syncOf f) xs .1)) in
           record { form = f; sync = sync ∙ sym z; ends = ltb-false (countAt f) (length xs) e }
 
   pub claim-says : Bytes xs → ClaimSays xs (claim xs)
   unfolding claim claimBy
-  claim-says b = go (fit newSync xs) (fit oldSync xs) (fit-says newSync xs) (fit-says oldSync xs)
+  claim-says b = go (fit newSync xs) (fit oldSync xs) (fit-common newSync xs) (fit-common oldSync xs)
     where
-      go : (n o : Fit) → FitSays newSync xs n → FitSays oldSync xs o → ClaimSays xs (claimBy n o xs)
+      go : (n o : Fit) → Fits newSync xs n → Fits oldSync xs o → ClaimSays xs (claimBy n o xs)
       go Whole o p q = counted-says (New 0 0) b refl p
       go Part o p q = part-ends (New 0 0) refl (omega arith) p
       go Bad Whole p q = counted-says (Old 0) b refl q
@@ -112,15 +112,15 @@ module _ (xs : List ℕ) where
   counted-ends f l = rw (le-ltb (countAt f) (length xs) l)
 
   -- shorter than a sync string, and the beginning of one
-  begins-short : (f : Form) → length xs < 4 → xs ≡ take (length xs) (syncOf f) → claim xs ≡ AtLeast (suc (length xs))
+  begins-short : (f : Form) → length xs < 4 → take (length xs) xs ≡ take (length xs) (syncOf f) → claim xs ≡ AtLeast (suc (length xs))
   unfolding claim claimBy
-  begins-short (New t u) l e = rw (begins-part newSync xs l e)
-  begins-short (Old v) l e = go (fit newSync xs) (fit-says newSync xs)
+  begins-short (New t u) l e = rw (← begins-part newSync xs l e)
+  begins-short (Old v) l e = go (fit newSync xs) (fit-common newSync xs)
     where
-      go : (n : Fit) → FitSays newSync xs n → claimBy n (fit oldSync xs) xs ≡ AtLeast (suc (length xs))
-      go Whole h = absurd (omega (arith, h .0))
+      go : (n : Fit) → Fits newSync xs n → claimBy n (fit oldSync xs) xs ≡ AtLeast (suc (length xs))
+      go Whole h = absurd (omega (arith, h, common-within newSync xs .1))
       go Part h = refl
-      go Bad h = rw (begins-part oldSync xs l e)
+      go Bad h = rw (← begins-part oldSync xs l e)
 
   pub ends-at-least : EndsBeforeCount xs → (k : ℕ) × (claim xs ≡ AtLeast k)
   ends-at-least h = go (ltb (length xs) 4) refl
@@ -132,24 +132,20 @@ module _ (xs : List ℕ) where
       go : (b : Bool) → ltb (length xs) 4 ≡ b → (k : ℕ) × (claim xs ≡ AtLeast k)
       go true e =
           let l = ltb-true (length xs) 4 e in
-          (suc (length xs), begins-short (h .form) l (sym (take-all 4 xs (omega arith)) ∙ h .sync))
+          (suc (length xs), begins-short (h .form) l (take-all (length xs) xs (omega arith) ∙ sym (take-all 4 xs (omega arith)) ∙ h .sync))
       go false e =
           let l = ltb-false (length xs) 4 e in
           (suc (countAt (h .form)), begins-form (h .form) (h .sync ∙ take-all (length xs) (syncOf (h .form)) (omega (arith, four (h .form)))) ∙ counted-ends (h .form) (h .ends))
 
   pub neither-nothing : (k : ℕ) → FitsNeither xs k → (claim xs ≡ Nothing) × (wrongAt xs ≡ k)
   unfolding claim claimBy
-  neither-nothing k h = go (fit newSync xs) refl (fit oldSync xs) refl (fit-says newSync xs) (fit-says oldSync xs)
+  neither-nothing k h = (rw (← bad newSync (omega arith) (within (New 0 0)), ← bad oldSync (omega arith) (within (Old 0))), at (ltb new old) refl (reaches (h .form) (h .before)))
     where
-      not-whole : (f : Form) → take 4 xs ≡ syncOf f → ⊥
-      not-whole f e = h .neither f (take-fewer k 4 xs (syncOf f) (h .to-four) (e ∙ sym (all f)))
-        where
-          all : (f : Form) → take 4 (syncOf f) ≡ syncOf f
-          all (New t u) = refl
-          all (Old v) = refl
+      new : ℕ
+      new = common newSync xs
 
-      not-part : (f : Form) → xs ≡ take (length xs) (syncOf f) → ⊥
-      not-part f e = h .neither f (take-fewer k (length xs) xs (syncOf f) (h .here) (take-all (length xs) xs (omega arith) ∙ e))
+      old : ℕ
+      old = common oldSync xs
 
       within : (f : Form) → common (syncOf f) xs < k
       within f = lt (ltb (common (syncOf f) xs) k) refl
@@ -158,26 +154,19 @@ module _ (xs : List ℕ) where
           lt true e = ltb-true (common (syncOf f) xs) k e
           lt false e = absurd (h .neither f (take-fewer k (common (syncOf f) xs) xs (syncOf f) (ltb-false (common (syncOf f) xs) k e) (common-take (syncOf f) xs)))
 
-      reaches : (f : Form) → take (k - 1) xs ≡ take (k - 1) (syncOf f) → (k - 1 ≤ common newSync xs) ⊎ (k - 1 ≤ common oldSync xs)
+      bad : (t : List ℕ) → 4 ≤ length t → common t xs < k → Bad ≡ fit t xs
+      bad t l c = common-bad t xs (λ e. omega (arith, h .to-four)) (λ e. omega (arith, h .here))
+
+      reaches : (f : Form) → take (k - 1) xs ≡ take (k - 1) (syncOf f) → (k - 1 ≤ new) ⊎ (k - 1 ≤ old)
       reaches (New t u) e = inl (take-common newSync xs (k - 1) (omega (arith, h .here)) (omega (arith, h .to-four)) e)
       reaches (Old v) e = inr (take-common oldSync xs (k - 1) (omega (arith, h .here)) (omega (arith, h .to-four)) e)
 
-      at : wrongAt xs ≡ k
-      at = by (ltb (common newSync xs) (common oldSync xs)) refl (reaches (h .form) (h .before))
-        where
-          by : (b : Bool) → ltb (common newSync xs) (common oldSync xs) ≡ b → (k - 1 ≤ common newSync xs) ⊎ (k - 1 ≤ common oldSync xs) → suc (cond b (common oldSync xs) (common newSync xs)) ≡ k
-          by true e r =
-              let l = ltb-true (common newSync xs) (common oldSync xs) e in
-              let far : k - 1 ≤ common oldSync xs = ⊎-elim (λ a. omega (arith, a)) (λ a. a) r in
-              omega (arith, within (Old 0), h .from-one)
-          by false e r =
-              let l = ltb-false (common newSync xs) (common oldSync xs) e in
-              let far : k - 1 ≤ common newSync xs = ⊎-elim (λ a. a) (λ a. omega (arith, a)) r in
-              omega (arith, within (New 0 0), h .from-one)
-
-      go : (n : Fit) → fit newSync xs ≡ n → (o : Fit) → fit oldSync xs ≡ o → FitSays newSync xs n → FitSays oldSync xs o → (claimBy n o xs ≡ Nothing) × (wrongAt xs ≡ k)
-      go Whole p o q x y = absurd (not-whole (New 0 0) (x .1))
-      go Part p o q x y = absurd (not-part (New 0 0) (x .1))
-      go Bad p Whole q x y = absurd (not-whole (Old 0) (y .1))
-      go Bad p Part q x y = absurd (not-part (Old 0) (y .1))
-      go Bad p Bad q x y = (refl, at)
+      at : (b : Bool) → ltb new old ≡ b → (k - 1 ≤ new) ⊎ (k - 1 ≤ old) → suc (cond b old new) ≡ k
+      at true e r =
+          let l = ltb-true new old e in
+          let far : k - 1 ≤ old = ⊎-elim (λ a. omega (arith, a)) (λ a. a) r in
+          omega (arith, within (Old 0), h .from-one)
+      at false e r =
+          let l = ltb-false new old e in
+          let far : k - 1 ≤ new = ⊎-elim (λ a. a) (λ a. omega (arith, a)) r in
+          omega (arith, within (New 0 0), h .from-one)

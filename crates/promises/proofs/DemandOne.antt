@@ -141,6 +141,7 @@ board-asks-nothing =
 -- and the parts that the entries are made of
 pub bytes-ask-nothing :
     AsksNothing octets.checksum.ended octets.checksum.Reads.Asked
+    × AsksNothing octets.common_to.ended octets.common_to.Reads.Asked
     × AsksNothing octets.fits.ended octets.fits.Reads.Asked
     × AsksNothing octets.starts.ended octets.starts.Reads.Asked
     × AsksNothing octets.number_of.ended octets.number_of.Reads.Asked
@@ -149,7 +150,7 @@ pub bytes-ask-nothing :
     × AsksNothing octets.raw_of.ended octets.raw_of.Reads.Asked
     × AsksNothing octets.clear.ended octets.clear.Reads.Asked
     × AsksNothing octets.copy.ended octets.copy.Reads.Asked
-bytes-ask-nothing = ((λ κs a. tt), (λ κs a. tt), (λ κs a. tt), (λ κs a. tt), (λ κs a. tt), (λ κs a. tt), (λ κs a. tt), (λ κs a. tt), (λ κs a. tt))
+bytes-ask-nothing = ((λ κs a. tt), (λ κs a. tt), (λ κs a. tt), (λ κs a. tt), (λ κs a. tt), (λ κs a. tt), (λ κs a. tt), (λ κs a. tt), (λ κs a. tt), (λ κs a. tt))
 
 pub units-ask-nothing :
     AsksNothing units.LockCount.from_count.ended units.LockCount.from_count.Reads.Asked

@@ -8,6 +8,7 @@ use lib.ListN.{length, take, drop, take-append-drop}
 use lib.Seq.{length-take-le, take-all, take-take, take-nil}
 use lib.Dec.{leb, eqb}
 use borrow.Author.Tests.{leb-true, leb-false}
+use Rattle.octets.specs.Begins.{common}
 use Rattle.octets.specs.Checksum.{checksumOf}
 use Rattle.octets.proofs.Parts.{drop-take}
 use Rattle.macm.specs.Form.{newSync, oldSync}
@@ -18,7 +19,7 @@ use Rattle.front.proofs.Bounds.{ClaimFact, claim-fact}
 use Rattle.front.proofs.Settled.{keepClaim, claim-append}
 use Rattle.division.specs.Walk.{further}
 use Rattle.reason.specs.declared.Reason.the-variants.{Sync}
-use Rattle.reason.specs.Reason.{common, residueOf, summed, hereOf}
+use Rattle.reason.specs.Reason.{residueOf, summed, hereOf}
 use Rattle.reason.proofs.HereSteps.{here-sync, here-whole}
 
 common-front : (t xs : List ℕ) (k : ℕ) → length t ≤ k → common t (take k xs) ≡ common t xs

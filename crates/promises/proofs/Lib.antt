@@ -17,7 +17,6 @@ pub mod Conversion
 pub mod Stands
 pub mod AsRun
 pub mod GivenIff
-pub mod Fits
 pub mod ClaimSays
 pub mod Located
 pub mod FirstBytes

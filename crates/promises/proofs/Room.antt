@@ -7,6 +7,8 @@ use native.Mathlib.Omega.{arith}
 use lib.ListN.{length, drop, length-append, length-drop}
 use lib.Dec.{ltb, leb, eqb}
 use borrow.Author.Tests.{ltb-true, ltb-false}
+use Rattle.octets.specs.Begins.{common}
+use Rattle.octets.proofs.Begins.{common-within}
 use Rattle.refusal.specs.declared.Refusal.{Refusal}
 use Rattle.refusal.specs.declared.Refusal.the-variants.{TooShort, NoSync, WrongLength, WrongChecksum, NoObservation, NoRoom, OtherForm, SmallBuffer, BadState, Ended, TooMuch, PastEnd}
 use Rattle.refusal.specs.Numbers.{numberOf}
@@ -21,7 +23,7 @@ use Rattle.front.specs.Claim.{claim}
 use Rattle.front.proofs.Bounds.{ClaimFact, claim-fact}
 use Rattle.reason.specs.declared.Reason.{Reason}
 use Rattle.reason.specs.declared.Reason.the-variants.{Refused, Inside, Given, Sync, CutUnknown, CutShort, Checksum}
-use Rattle.reason.specs.Reason.{common, residueOf, summed, saidBy, hereOf, coverOf, reasonOf}
+use Rattle.reason.specs.Reason.{residueOf, summed, saidBy, hereOf, coverOf, reasonOf}
 use Rattle.reason.proofs.HereSteps.{here-some}
 use Rattle.account.specs.Account.{saidText, reasonText, linesOf, accountText, reportText}
 
@@ -86,23 +88,13 @@ lines-within f (suc k) h =
     let z : 0 + k ≡ k = omega arith in
     rw z (omega (arith, length-append (linesOf f 0 k) (reasonText k (f k)), lines-within f k (λ p l. h p (omega arith)), h k (omega arith)))
 
-common-within : (t xs : List ℕ) → common t xs ≤ length t
-unfolding common
-common-within [] xs = omega arith
-common-within (t ∷ ts) [] = omega arith
-common-within (t ∷ ts) (x ∷ xs) = go (eqb x t) (common-within ts xs)
-  where
-    go : (b : Bool) → common ts xs ≤ length ts → cond b (suc (common ts xs)) 0 ≤ length (t ∷ ts)
-    go true h = omega arith
-    go false h = omega arith
-
 said-small : (xs : List ℕ) (c : Claim) → ClaimFact xs c → Small (saidBy c xs)
 unfolding saidBy summed
 said-small xs Nothing h = go (ltb (common newSync xs) (common oldSync xs))
   where
     go : (b : Bool) → suc (cond b (common oldSync xs) (common newSync xs)) < 100000
-    go true = omega (arith, common-within oldSync xs)
-    go false = omega (arith, common-within newSync xs)
+    go true = omega (arith, common-within oldSync xs .0)
+    go false = omega (arith, common-within newSync xs .0)
 said-small xs (AtLeast k) h = tt
 said-small xs (Long n) h = go (leb n (length xs)) (eqb (residueOf n xs) 0)
   where

@@ -2,8 +2,8 @@
 use Prim.Native.Nat.{ℕ, zero, suc}
 use mathlib.Core.Path.{_≡_, refl}
 use mathlib.Core.List.{List, [], _∷_, _++_}
-use lib.ListN.{length, replicate}
-use Rattle.octets.specs.Begins.{fit}
+use lib.ListN.{replicate}
+use Rattle.octets.specs.Begins.{common, fit}
 use Rattle.octets.specs.Checksum.{checksumFrom}
 use Rattle.macm.specs.Check.{agrees}
 use Rattle.front.specs.Claim.{counted, claimBy, claim}
@@ -11,7 +11,7 @@ use Rattle.front.specs.Look.{judged, lookBy, look}
 use Rattle.division.specs.Division.{lengthOf, stands, divided, divideFrom, divide}
 use Rattle.reason.specs.declared.Reason.{Reason}
 use Rattle.reason.specs.declared.Reason.the-variants.{Inside, Given, Sync, CutUnknown, CutShort, Checksum}
-use Rattle.reason.specs.Reason.{common, summed, saidBy, hereOf, coverIn, reasonOf}
+use Rattle.reason.specs.Reason.{summed, saidBy, hereOf, coverIn, reasonOf}
 
 -- MAC, then A, a message of the new form: the letters of its sync string and MAC are a sync string too
 abbrev recording : List ℕ

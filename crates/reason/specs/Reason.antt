@@ -4,6 +4,7 @@ use mathlib.Core.Bool.{cond}
 use mathlib.Core.List.{List, [], _∷_}
 use lib.ListN.{length, drop}
 use lib.Dec.{ltb, leb, eqb}
+use Rattle.octets.specs.Begins.{common}
 use Rattle.octets.specs.Checksum.{checksumOf}
 use Rattle.octets.specs.Parts.{part as partOf}
 use Rattle.refusal.specs.declared.Refusal.the-variants.{PastEnd}
@@ -17,12 +18,6 @@ use Rattle.reason.specs.declared.Reason.{Reason}
 use Rattle.reason.specs.declared.Reason.the-variants.{Refused, Inside, Given, Sync, CutUnknown, CutShort, Checksum}
 
 -- ---- at the first of some bytes, which no message covers
-
--- how many of the first bytes are those of a string
-unfoldable pub common : List ℕ → List ℕ → ℕ
-common [] s = 0
-common (t ∷ ts) [] = 0
-common (t ∷ ts) (x ∷ xs) = cond (eqb x t) (suc (common ts xs)) 0
 
 -- the byte, counted from 1, that is the first to fit neither sync string
 abbrev pub wrongAt : List ℕ → ℕ

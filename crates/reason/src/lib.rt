@@ -5,7 +5,7 @@ use refusal::Refusal;
 ghost use mathlib.Core.Path.{_≡_};
 ghost use Prim.Native.Nat.{_≤_};
 ghost use lib.ListN.{length};
-ghost use Rattle.reason.specs.Reason.{common, wrongAt, residueOf, summed, hereOf, coverOf, reasonOf};
+ghost use Rattle.reason.specs.Reason.{wrongAt, residueOf, summed, hereOf, coverOf, reasonOf};
 
 // Inside the given message that begins at a position; given, with so many bytes; byte k of the sync, counted from 1, is the first that fits neither form;
 // cut short before the count byte, or by so many bytes; the checksum is off, with the residue.
@@ -21,28 +21,11 @@ pub enum Reason {
 
 // ---- at the first of some bytes, which no message covers
 
-// How many of the first bytes of s are those of t.
-fn common_to(t: &[u8], s: &[u8]) -> usize
-    ensures { λ r. ⌜ (r ≡ common (now (t .entry)) (now (s .entry))) × (r ≤ length (now (t .entry))) ⌝ }
-{
-    let mut i = 0;
-    while i < t.len() {
-        if s.len() <= i {
-            return i;
-        }
-        if s[i] != t[i] {
-            return i;
-        }
-        i += 1;
-    }
-    i
-}
-
 fn wrong_at(bytes: &[u8]) -> usize
     ensures { λ r. ⌜ r ≡ wrongAt (now (bytes .entry)) ⌝ }
 {
-    let new = common_to(&macm::NEW_SYNC, bytes);
-    let old = common_to(&macm::OLD_SYNC, bytes);
+    let new = octets::common_to(&macm::NEW_SYNC, bytes);
+    let old = octets::common_to(&macm::OLD_SYNC, bytes);
     if new < old { old + 1 } else { new + 1 }
 }
 

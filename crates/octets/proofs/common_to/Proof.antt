@@ -1,4 +1,4 @@
--- `reason::common_to` meets its contract: the bytes passed so far are common, and what is left has the rest in common. Assumes nothing.
+-- `octets::common_to` meets its contract: the bytes passed so far are common, and what is left has the rest in common. Assumes nothing.
 use Prim.Native.Nat.{ℕ, _+_, _-_, _≤_, _<_}
 use mathlib.Core.Path.{_≡_}
 use mathlib.Core.List.{List}
@@ -7,9 +7,9 @@ use native.Mathlib.Numerals.{add-one}
 use lib.ListN.{length, getD, drop, drop-of-length-le}
 use lib.Seq.{drop-cons}
 use borrow.Author.Tests.{eq-eqb, ne-eqb}
-use Rattle.reason.specs.Reason.{common}
-use Rattle.reason.proofs.common_to.Statement.{statement}
-use Rattle.reason.proofs.common_to.Tie as tie
+use Rattle.octets.specs.Begins.{common}
+use Rattle.octets.proofs.common_to.Statement.{statement}
+use Rattle.octets.proofs.common_to.Tie as tie
 
 abbrev Inv-loop : tie.InvT-loop
 Inv-loop t s i₀ i = (i ≤ length t) × (i ≤ length s) × (common t s ≡ i + common (drop i t) (drop i s))
