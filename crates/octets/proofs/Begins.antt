@@ -5,12 +5,12 @@ use mathlib.Core.Bool.{Bool, true, false, cond}
 use mathlib.Core.List.{List, [], _∷_}
 use native.Mathlib.Omega.{arith}
 use lib.ListN.{length, getD, take}
-use lib.Seq.{take-take}
-use lib.Dec.{eqb}
-use borrow.Author.Tests.{eqb-true, eq-eqb}
+use lib.Seq.{take-take, length-take-le}
+use lib.Dec.{leb, eqb}
+use borrow.Author.Tests.{leb-true, leb-false, eqb-true, eq-eqb}
 use Rattle.octets.specs.declared.Fit.{Fit}
 use Rattle.octets.specs.declared.Fit.the-variants.{Whole, Part, Bad}
-use Rattle.octets.specs.Begins.{common, fit}
+use Rattle.octets.specs.Begins.{common, fit, isWhole, begins}
 
 heads : {x y : ℕ} {xs ys : List ℕ} → x ∷ xs ≡ y ∷ ys → x ≡ y
 heads e = ap (λ l. getD l 0 0) e
@@ -74,32 +74,54 @@ fit-common (t ∷ ts) (x ∷ xs) = go (eqb x t) refl (fit ts xs) (fit-common ts 
 
 -- and from that number
 module _ (t s : List ℕ) where
-  pub common-whole : common t s ≡ length t → Whole ≡ fit t s
-  common-whole e = go (fit t s) (fit-common t s)
-    where
-      go : (f : Fit) → Fits t s f → Whole ≡ f
-      go Whole h = refl
-      go Part h = absurd (omega (arith, h .0, h .1))
-      go Bad h = absurd (omega (arith, h .0))
-
-  pub common-part : (common t s ≡ length t → ⊥) → common t s ≡ length s → Part ≡ fit t s
-  common-part n e = go (fit t s) (fit-common t s)
-    where
-      go : (f : Fit) → Fits t s f → Part ≡ f
-      go Whole h = absurd (n h)
-      go Part h = refl
-      go Bad h = absurd (omega (arith, h .1))
-
-  pub common-bad : (common t s ≡ length t → ⊥) → (common t s ≡ length s → ⊥) → Bad ≡ fit t s
-  common-bad n m = go (fit t s) (fit-common t s)
+  pub common-bad : common t s < length t → common t s < length s → Bad ≡ fit t s
+  common-bad l m = go (fit t s) (fit-common t s)
     where
       go : (f : Fit) → Fits t s f → Bad ≡ f
-      go Whole h = absurd (n h)
-      go Part h = absurd (m (h .0))
+      go Whole h = absurd (omega (arith, h))
+      go Part h = absurd (omega (arith, h .0))
       go Bad h = refl
 
   -- a beginning of the string is no contradiction
   pub begins-part : length s < length t → take (length s) s ≡ take (length s) t → Part ≡ fit t s
-  begins-part l e =
-      let m = take-common t s (length s) (omega arith) (omega arith) e in
-      common-part (λ z. omega (arith, common-within t s .1)) (omega (arith, common-within t s .1))
+  begins-part l e = go (fit t s) (fit-common t s) (take-common t s (length s) (omega arith) (omega arith) e)
+    where
+      go : (f : Fit) → Fits t s f → length s ≤ common t s → Part ≡ f
+      go Whole h m = absurd (omega (arith, h, common-within t s .1))
+      go Part h m = refl
+      go Bad h m = absurd (omega (arith, h .1))
+
+-- ---- with so much of a string bytes begin exactly if that much of it is common
+module _ (t s : List ℕ) (n : ℕ) (l : n ≤ length t) where
+  long : length (take n t) ≡ n
+  long = length-take-le n t l
+
+  more : n ≤ common t s → n ≤ common (take n t) s
+  more m =
+      take-common (take n t) s n (omega (arith, common-within t s .1)) (omega (arith, long))
+      (take-fewer n (common t s) s t m (common-take t s) ∙ sym (take-take n n t (omega arith)))
+
+  pub begins-so : begins (take n t) s ≡ true → n ≤ common t s
+  begins-so e = go (fit (take n t) s) (fit-common (take n t) s) e
+    where
+      not : false ≡ true → ⊥
+      not e = let z : _≡_ {A = ℕ} 0 1 = cc in omega arith
+
+      go : (f : Fit) → Fits (take n t) s f → isWhole f ≡ true → n ≤ common t s
+      go Whole h e =
+          let z : common (take n t) s ≡ n = h ∙ long in
+          take-common t s n (omega (arith, common-within (take n t) s .1)) l (rw z at (common-take (take n t) s) ∙ take-take n n t (omega arith))
+      go Part h e = absurd (not e)
+      go Bad h e = absurd (not e)
+
+  pub begins-not : begins (take n t) s ≡ false → common t s < n
+  begins-not e = go (fit (take n t) s) (fit-common (take n t) s) e (leb n (common t s)) refl
+    where
+      not : true ≡ false → ⊥
+      not e = let z : _≡_ {A = ℕ} 0 1 = cc in omega arith
+
+      go : (f : Fit) → Fits (take n t) s f → isWhole f ≡ false → (b : Bool) → leb n (common t s) ≡ b → common t s < n
+      go f h e false q = leb-false n (common t s) q
+      go Whole h e true q = absurd (not e)
+      go Part h e true q = absurd (omega (arith, h .0, h .1, long, more (leb-true n (common t s) q)))
+      go Bad h e true q = absurd (omega (arith, h .0, long, more (leb-true n (common t s) q)))

@@ -34,35 +34,21 @@ pub fn checksum(s: &[u8]) -> u8
 
 // ---- how a slice begins
 
-// How many of the first bytes of s are those of t.
-pub fn common_to(t: &[u8], s: &[u8]) -> usize
-    ensures { λ r. ⌜ (r ≡ common (now (t .entry)) (now (s .entry))) × (r ≤ length (now (t .entry))) ⌝ }
-{
-    let mut i = 0;
-    while i < t.len() {
-        if s.len() <= i {
-            return i;
-        }
-        if s[i] != t[i] {
-            return i;
-        }
-        i += 1;
-    }
-    i
-}
-
 // How s begins, held against t.
 pub fn fits(t: &[u8], s: &[u8]) -> Fit
     ensures { λ r. ⌜ r ≡ fit (now (t .entry)) (now (s .entry)) ⌝ }
 {
-    let n = common_to(t, s);
-    if n == t.len() {
-        return Fit::Whole;
+    let mut i = 0;
+    while i < t.len() {
+        if s.len() <= i {
+            return Fit::Part;
+        }
+        if s[i] != t[i] {
+            return Fit::Bad;
+        }
+        i += 1;
     }
-    if n == s.len() {
-        return Fit::Part;
-    }
-    Fit::Bad
+    Fit::Whole
 }
 
 // Whether s begins with all of t.
@@ -74,6 +60,20 @@ pub fn starts(t: &[u8], s: &[u8]) -> bool
         Fit::Part => false,
         Fit::Bad => false,
     }
+}
+
+// How many of the first bytes of s are those of t: s begins with that much of t, and with no more.
+pub fn common_to(t: &[u8], s: &[u8]) -> usize
+    ensures { λ r. ⌜ (r ≡ common (now (t .entry)) (now (s .entry))) × (r ≤ length (now (t .entry))) ⌝ }
+{
+    let mut n = t.len();
+    while 0 < n {
+        if starts(&t[..n], s) {
+            return n;
+        }
+        n -= 1;
+    }
+    n
 }
 
 // ---- numbers, most significant byte first

@@ -155,7 +155,7 @@ module _ (xs : List ℕ) where
           lt false e = absurd (h .neither f (take-fewer k (common (syncOf f) xs) xs (syncOf f) (ltb-false (common (syncOf f) xs) k e) (common-take (syncOf f) xs)))
 
       bad : (t : List ℕ) → 4 ≤ length t → common t xs < k → Bad ≡ fit t xs
-      bad t l c = common-bad t xs (λ e. omega (arith, h .to-four)) (λ e. omega (arith, h .here))
+      bad t l c = common-bad t xs (omega (arith, h .to-four)) (omega (arith, h .here))
 
       reaches : (f : Form) → take (k - 1) xs ≡ take (k - 1) (syncOf f) → (k - 1 ≤ new) ⊎ (k - 1 ≤ old)
       reaches (New t u) e = inl (take-common newSync xs (k - 1) (omega (arith, h .here)) (omega (arith, h .to-four)) e)
