@@ -1,6 +1,7 @@
 #!/bin/sh
 # The C host of tests/host/ reads the published messages and S12 through the C boundary, compiled plainly and with sanitizers, and prints what
-# tests/host/expected.txt says; the header is taken by C and by C++. Needs target/staticlib/libboard.a, which `rt staticlib board` leaves.
+# tests/host/expected.txt says; another one prints the reasons that the program `why` prints; the header is taken by C and by C++. Needs
+# target/staticlib/libboard.a, which `rt staticlib board` leaves.
 set -u
 root=$(cd "$(dirname "$0")/.." && pwd -P) || exit 2
 cd "$root" || exit 2
@@ -13,11 +14,11 @@ fail() {
 [ -f "$archive" ] || fail "no $archive: run 'rt staticlib board' first"
 rm -rf "$work" && mkdir -p "$work" || exit 2
 
-# build NAME OPTION...: the host, under this name, with these options
+# build NAME SOURCE OPTION...: the host of this source, under this name, with these options
 build() {
-    name=$1
-    shift
-    gcc -std=c11 -Wall -Wextra -Werror -O2 "$@" -Iinclude tests/host/recording.c "$archive" -o "$work/$name" || fail "$name does not compile"
+    name=$1 source=tests/host/$2
+    shift 2
+    gcc -std=c11 -Wall -Wextra -Werror -O2 "$@" -Iinclude "$source" "$archive" -o "$work/$name" || fail "$name does not compile"
 }
 
 # listing NAME: what the host of this name prints for every recording, from files and from standard input
@@ -32,14 +33,19 @@ listing() {
     "$work/$1" </dev/null
 }
 
-build plain
-build sanitized -g -fsanitize=address,undefined -fno-sanitize-recover=all
+build plain recording.c
+build sanitized recording.c -g -fsanitize=address,undefined -fno-sanitize-recover=all
+build reasons reasons.c -g -fsanitize=address,undefined -fno-sanitize-recover=all
 for name in plain sanitized; do
     listing "$name" >"$work/$name.txt" 2>"$work/$name.err" || fail "$name stops: $(head -n 3 "$work/$name.err")"
     [ ! -s "$work/$name.err" ] || fail "$name complains: $(head -n 3 "$work/$name.err")"
     diff tests/host/expected.txt "$work/$name.txt" || fail "$name prints something else than tests/host/expected.txt"
 done
+for recording in crates/why/stdin samples/sortie.macm /dev/null; do
+    target/bin/why <"$recording" >"$work/why.txt"
+    "$work/reasons" <"$recording" | cmp -s - "$work/why.txt" || fail "the reasons of $recording are others than those of why"
+done
 echo '#include "cablesound.h"' >"$work/header.cpp"
 g++ -std=c++11 -Wall -Wextra -Wpedantic -Werror -fsyntax-only -Iinclude "$work/header.cpp" || fail "the header is no C++"
 gcc -std=c11 -Wall -Wextra -Wpedantic -Werror -fsyntax-only -Iinclude -x c "$work/header.cpp" || fail "the header is no C11 by itself"
-echo "host: the C host prints what it must, plain and with sanitizers; the header is C11 and C++"
+echo "host: the C hosts print what they must, plain and with sanitizers; the header is C11 and C++"

@@ -21,6 +21,7 @@ pub enum Reason {
 
 // ---- at the first of some bytes, which no message covers
 
+// The first byte that fits neither sync string, where neither begins the bytes.
 fn wrong_at(bytes: &[u8]) -> usize
     ensures { λ r. ⌜ r ≡ wrongAt (now (bytes .entry)) ⌝ }
 {
