@@ -16,11 +16,11 @@ if ! cargo test --offline --locked --quiet -- --nocapture >"$log" 2>&1 </dev/nul
     echo "readers: FAILED: the whole log is target/readers.log"
     exit 1
 fi
-# The cases and their seed stand in the lines `KIND: N cases from seed S` that the tests print.
+# The cases and their seeds stand in the lines `KIND: N cases from seed S` that the tests print.
 awk '
-    / cases from seed / { cases += $2; seed = $6 }
+    / cases from seed / { cases += $2; if (!seen[$6 + 0]++) seeds = seeds " " $6 + 0 }
     /^test result: ok/ { passed += $4 }
     END {
         if (passed == 0 || cases == 0) { print "readers: FAILED: nothing ran"; exit 1 }
-        print "readers: " passed " tests passed, " cases " cases from seed " seed + 0 ", no difference between the two readers"
+        print "readers: " passed " tests passed, " cases " cases from the seeds" seeds ", no difference between the two readers"
     }' "$log"

@@ -1,18 +1,16 @@
 -- From a position that no message covers to the next one, as the account goes over a recording. Assumes nothing.
-use Prim.Native.Nat.{ℕ, suc, _+_, _≤_, _<_}
-use mathlib.Core.Path.{_≡_, refl, sym, ap, _∙_}
-use mathlib.Core.List.{List, _∷_}
+use Prim.Native.Nat.{ℕ, _+_, _≤_, _<_}
+use mathlib.Core.Path.{_≡_, refl, sym, _∙_}
+use mathlib.Core.List.{List}
 use native.Mathlib.Omega.{arith}
-use native.Mathlib.Numerals.{add-one}
-use lib.ListN.{length, getD, drop, length-drop}
-use lib.Seq.{drop-cons, drop-drop}
+use lib.ListN.{length, drop}
 use borrow.Author.Tests.{lt-ltb, le-ltb}
 use Rattle.division.specs.Division.{stands, divide}
 use Rattle.reason.specs.declared.Reason.{Reason}
 use Rattle.reason.specs.declared.Reason.the-variants.{Refused, Inside, Given, Sync, CutUnknown, CutShort, Checksum}
 use Rattle.reason.specs.Reason.{hereOf, coverIn, coverOf, reasonOf}
 use Rattle.reason.proofs.HereStands.{Stands, here-stands}
-use Rattle.reason.proofs.CoverSteps.{cover-before, cover-gap, cover-in, cover-behind}
+use Rattle.reason.proofs.CoverSteps.{Onward, cover-before, cover-gap, cover-message, covered-there, covered-onward, at-inside}
 use Rattle.account.specs.Steps.{spanOf}
 
 -- no message that begins before `at` reaches past it
@@ -31,46 +29,26 @@ pub record Settled (s : List ℕ) (at : ℕ) (r : Reason) : Type 0 where
   pub next : Ahead s (at + spanOf r)
 
 module _ (s : List ℕ) (at : ℕ) (a : Ahead s at) (l : at < length s) where
-  xs : List ℕ
-  xs = drop (suc at) s
-
-  x : ℕ
-  x = getD s at 0
-
-  cons : drop at s ≡ x ∷ xs
-  unfolding x xs
-  cons = drop-cons s at 0 l
-
   here : reasonOf s at ≡ hereOf (drop at s)
   unfolding reasonOf
   here = rw (lt-ltb at (length s) l, a .covers at (omega arith), cover-before (divide (drop at s) 0) at at (omega arith), le-ltb at at (omega arith))
 
   -- a byte that is gap
   gap : (r : Reason) → hereOf (drop at s) ≡ r → spanOf r ≡ 1 → stands (drop at s) ≡ 0 → Settled s at r
-  unfolding x xs
-  gap r e one n = record { some = omega (arith, one); here = here ∙ e; inside = λ p j k. absurd (omega (arith, one)); next = rw (one) on }
+  gap r e one n = record { some = omega (arith, one); here = here ∙ e; inside = λ p j k. absurd (omega (arith, one)); next = rw one on }
     where
       on : Ahead s (at + 1)
-      on = record { within = omega arith; covers = λ p j. a .covers p (omega arith) ∙ ap (λ t. coverIn (divide t 0) at p) cons ∙ cover-gap at p x xs (rw cons at n) ∙ rw add-one }
+      on = record { within = omega arith; covers = λ p j. a .covers p (omega arith) ∙ cover-gap s at p l n }
 
   -- a message
   given : (n : ℕ) → hereOf (drop at s) ≡ Given n → stands (drop at s) ≡ n → 15 ≤ n → n ≤ length (drop at s) → Settled s at (Given n)
-  unfolding x xs reasonOf
-  given n e st long fits = record { some = omega arith; here = here ∙ e; inside = λ p j k. inside p j k; next = record { within = end; covers = λ p j. a .covers p (omega arith) ∙ behind p j } }
+  given n e st long fits = record { some = omega arith; here = here ∙ e; inside = inside; next = record { within = first at .within; covers = λ p j. a .covers p (omega arith) ∙ covered-onward s at p at n (first p) j } }
     where
-      end : at + n ≤ length s
-      end = omega (arith, length-drop at s)
-
-      covered : (p : ℕ) → at < p → p < at + n → coverOf s p ≡ at
-      covered p j k = a .covers p (omega arith) ∙ ap (λ t. coverIn (divide t 0) at p) cons ∙ cover-in at p x xs n (rw cons at st) (omega arith) (rw cons at fits) j k
+      first : (p : ℕ) → Onward s at p at n
+      first p = cover-message s at p l n st (omega arith) fits
 
       inside : (p : ℕ) → at < p → p < at + n → reasonOf s p ≡ Inside at
-      inside p j k = rw (lt-ltb p (length s) (omega (arith, end)), covered p j k, lt-ltb at p j)
-
-      behind : (p : ℕ) → at + n ≤ p → coverIn (divide (drop at s) 0) at p ≡ coverIn (divide (drop (at + n) s) 0) (at + n) p
-      behind p j =
-          ap (λ t. coverIn (divide t 0) at p) cons ∙ cover-behind at p x xs n (rw cons at st) (omega arith) (rw cons at fits) j
-          ∙ ap (λ t. coverIn (divide (drop n t) 0) (at + n) p) (sym cons) ∙ ap (λ t. coverIn (divide t 0) (at + n) p) (drop-drop n at s)
+      inside p j k = sym (at-inside s p (omega (arith, first p .within)) at (sym (a .covers p (omega arith) ∙ covered-there s at p at n (first p) k j)) j)
 
   pub settled : (r : Reason) → r ≡ hereOf (drop at s) → Settled s at r
   settled r e = go r (sym e) (rw (← e) at (here-stands (drop at s)))

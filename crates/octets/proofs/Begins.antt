@@ -92,6 +92,9 @@ module _ (t s : List ℕ) where
       go Bad h m = absurd (omega (arith, h .1))
 
 -- ---- with so much of a string bytes begin exactly if that much of it is common
+clash : true ≡ false → ⊥
+clash e = let z : _≡_ {A = ℕ} 0 1 = cc in omega arith
+
 module _ (t s : List ℕ) (n : ℕ) (l : n ≤ length t) where
   long : length (take n t) ≡ n
   long = length-take-le n t l
@@ -104,24 +107,18 @@ module _ (t s : List ℕ) (n : ℕ) (l : n ≤ length t) where
   pub begins-so : begins (take n t) s ≡ true → n ≤ common t s
   begins-so e = go (fit (take n t) s) (fit-common (take n t) s) e
     where
-      not : false ≡ true → ⊥
-      not e = let z : _≡_ {A = ℕ} 0 1 = cc in omega arith
-
       go : (f : Fit) → Fits (take n t) s f → isWhole f ≡ true → n ≤ common t s
       go Whole h e =
           let z : common (take n t) s ≡ n = h ∙ long in
           take-common t s n (omega (arith, common-within (take n t) s .1)) l (rw z at (common-take (take n t) s) ∙ take-take n n t (omega arith))
-      go Part h e = absurd (not e)
-      go Bad h e = absurd (not e)
+      go Part h e = absurd (clash (sym e))
+      go Bad h e = absurd (clash (sym e))
 
   pub begins-not : begins (take n t) s ≡ false → common t s < n
   begins-not e = go (fit (take n t) s) (fit-common (take n t) s) e (leb n (common t s)) refl
     where
-      not : true ≡ false → ⊥
-      not e = let z : _≡_ {A = ℕ} 0 1 = cc in omega arith
-
       go : (f : Fit) → Fits (take n t) s f → isWhole f ≡ false → (b : Bool) → leb n (common t s) ≡ b → common t s < n
       go f h e false q = leb-false n (common t s) q
-      go Whole h e true q = absurd (not e)
+      go Whole h e true q = absurd (clash e)
       go Part h e true q = absurd (omega (arith, h .0, h .1, long, more (leb-true n (common t s) q)))
       go Bad h e true q = absurd (omega (arith, h .0, long, more (leb-true n (common t s) q)))

@@ -1,12 +1,13 @@
 -- Where a position is covered, from one message of the division to the next. Assumes nothing.
-use Prim.Native.Nat.{ℕ, suc, _+_, _-_, _≤_, _<_}
-use mathlib.Core.Path.{_≡_, refl, ap, _∙_}
+use Prim.Native.Nat.{ℕ, _+_, _-_, _≤_, _<_}
+use mathlib.Core.Path.{_≡_, refl, sym, ap, _∙_}
 use mathlib.Core.Logic.{inl, inr}
 use mathlib.Core.Bool.{Bool, true, false, cond}
 use mathlib.Core.List.{List, [], _∷_}
 use native.Mathlib.Omega.{arith}
-use lib.ListN.{length, take, drop, length-drop}
-use lib.Seq.{length-take-le, take-all}
+use native.Mathlib.Numerals.{add-one}
+use lib.ListN.{length, getD, take, drop, length-drop}
+use lib.Seq.{length-take-le, take-all, drop-cons, drop-drop}
 use lib.Dec.{ltb}
 use borrow.Author.Tests.{lt-ltb, le-ltb}
 use denote.Enum.Declared.{tagOf}
@@ -36,47 +37,64 @@ cover-before (part g m d) at p l = rw (le-ltb (at + g) p (omega arith), cover-be
     go true = refl
     go false = refl
 
--- ---- from one position that no message covers to the next
-module _ (at p x : ℕ) (xs : List ℕ) where
-  -- a gap byte covers nothing
-  pub cover-gap : stands (x ∷ xs) ≡ 0 → coverIn (divide (x ∷ xs) 0) at p ≡ coverIn (divide xs 0) (suc at) p
-  unfolding coverIn
-  cover-gap e = ap (λ d. coverIn d at p) (divide-gap x xs 0 e) ∙ go (walkOf true xs 0 0) (walk-ends xs 0 0)
-    where
-      go : (w : Walked) → Ends xs 0 w → coverIn (divide xs 1) at p ≡ coverIn (divide xs 0) (suc at) p
-      go (Message k n t) f =
-          let z : at + (1 + f .ahead) ≡ suc at + (0 + f .ahead) = omega arith in
-          rw (f .is 1, f .is 0, z)
-      go (Unsettled k) f = rw (f .1 1, f .1 0)
-
-  -- a message covers what lies behind its first byte up to its end
-  module _ (n : ℕ) (e : stands (x ∷ xs) ≡ n) (some : 0 < n) (here : n ≤ length (x ∷ xs)) where
-    cover-message : coverIn (divide (x ∷ xs) 0) at p ≡ cond (ltb p (at + n)) (cond (ltb at p) at p) (coverIn (divide (drop n (x ∷ xs)) 0) (at + n) p)
-    unfolding coverIn
-    cover-message =
-        let z : at + 0 ≡ at = omega arith in
-        rw (divide-message x xs 0 n e some, length-take-le n (x ∷ xs) here, z)
-
-    pub cover-in : at < p → p < at + n → coverIn (divide (x ∷ xs) 0) at p ≡ at
-    cover-in l k = cover-message ∙ rw (lt-ltb p (at + n) k, lt-ltb at p l)
-
-    pub cover-behind : at + n ≤ p → coverIn (divide (x ∷ xs) 0) at p ≡ coverIn (divide (drop n (x ∷ xs)) 0) (at + n) p
-    cover-behind l = cover-message ∙ rw (le-ltb p (at + n) l)
-
--- ---- what the plain reader's answer from a start on says of it
+-- ---- the first message from `at` on stands at q and has n bytes: what that says of where p is covered
 pub record Onward (s : List ℕ) (at p q n : ℕ) : Type 0 where
   pub from : at ≤ q
   pub some : 0 < n
   pub within : q + n ≤ length s
   pub covers : coverIn (divide (drop at s) 0) at p ≡ cond (ltb p (q + n)) (cond (ltb q p) q p) (coverIn (divide (drop (q + n) s) 0) (q + n) p)
 
-abbrev pub Next-says : List ℕ → ℕ → ℕ → Next → Type 0
+module _ (s : List ℕ) (at p q n : ℕ) (h : Onward s at p q n) where
+  pub covered-there : p < q + n → q < p → coverIn (divide (drop at s) 0) at p ≡ q
+  covered-there l k = h .covers ∙ rw (lt-ltb p (q + n) l, lt-ltb q p k)
+
+  pub covered-by-none : p < q + n → p ≤ q → coverIn (divide (drop at s) 0) at p ≡ p
+  covered-by-none l k = h .covers ∙ rw (lt-ltb p (q + n) l, le-ltb q p k)
+
+  pub covered-onward : q + n ≤ p → coverIn (divide (drop at s) 0) at p ≡ coverIn (divide (drop (q + n) s) 0) (q + n) p
+  covered-onward l = h .covers ∙ rw (le-ltb p (q + n) l)
+
+-- ---- at a position that no message covers
+module _ (s : List ℕ) (at p : ℕ) (l : at < length s) where
+  x : ℕ
+  x = getD s at 0
+
+  xs : List ℕ
+  xs = drop (at + 1) s
+
+  front : drop at s ≡ x ∷ xs
+  unfolding x xs
+  front = drop-cons s at 0 l ∙ ap (λ i. getD s at 0 ∷ drop i s) (sym (add-one at))
+
+  -- a gap byte covers nothing
+  pub cover-gap : stands (drop at s) ≡ 0 → coverIn (divide (drop at s) 0) at p ≡ coverIn (divide (drop (at + 1) s) 0) (at + 1) p
+  unfolding coverIn x xs
+  cover-gap e = ap (λ d. coverIn d at p) (ap (λ r. divide r 0) front ∙ divide-gap x xs 0 (rw front at e)) ∙ go (walkOf true xs 0 0) (walk-ends xs 0 0)
+    where
+      go : (w : Walked) → Ends xs 0 w → coverIn (divide xs 1) at p ≡ coverIn (divide xs 0) (at + 1) p
+      go (Message k n t) f =
+          let z : at + (1 + f .ahead) ≡ at + 1 + (0 + f .ahead) = omega arith in
+          rw (f .is 1, f .is 0, z)
+      go (Unsettled k) f = rw (f .1 1, f .1 0)
+
+  -- a message covers what lies behind its first byte up to its end
+  pub cover-message : (n : ℕ) → stands (drop at s) ≡ n → 0 < n → n ≤ length (drop at s) → Onward s at p at n
+  unfolding coverIn x xs
+  cover-message n e some here =
+      let z : at + 0 ≡ at = omega arith in
+      let d : divide (drop at s) 0 ≡ part 0 (take n (drop at s)) (divide (drop (at + n) s) 0) =
+      ap (λ r. divide r 0) front ∙ divide-message x xs 0 n (rw front at e) some ∙ ap (λ r. part 0 (take n r) (divide (drop n r) 0)) (sym front)
+      ∙ ap (λ r. part 0 (take n (drop at s)) (divide r 0)) (drop-drop n at s) in
+      record { from = omega arith; some = some; within = omega (arith, length-drop at s); covers = rw (d, length-take-le n (drop at s) here, z) }
+
+-- ---- what the plain reader's answer from a start on says of it
+abbrev Next-says : List ℕ → ℕ → ℕ → Next → Type 0
 Next-says s at p (NotFound r) = ⊥
 Next-says s at p (Found q n g) = Onward s at p q n
 Next-says s at p (NoneLeft g) = coverIn (divide (drop at s) 0) at p ≡ p
 
 module _ (s : List ℕ) (at p : ℕ) (l : at ≤ length s) where
-  pub next-says : Next-says s at p (nextOf s at)
+  next-says : Next-says s at p (nextOf s at)
   unfolding coverIn
   next-says = go (walkOf true (drop at s) 0 0) (walk-ends (drop at s) 0 0)
     where
@@ -100,16 +118,6 @@ module _ (s : List ℕ) (at p : ℕ) (l : at ≤ length s) where
         go (Found q n g) (inl e) h = absurd (omega arith)
         go (Found q n g) (inr e) h = absurd (omega arith)
         go (NoneLeft g) t h = h
-
-module _ (s : List ℕ) (at p q n : ℕ) (h : Onward s at p q n) where
-  pub covered-there : p < q + n → q < p → coverIn (divide (drop at s) 0) at p ≡ q
-  covered-there l k = h .covers ∙ rw (lt-ltb p (q + n) l, lt-ltb q p k)
-
-  pub covered-by-none : p < q + n → p ≤ q → coverIn (divide (drop at s) 0) at p ≡ p
-  covered-by-none l k = h .covers ∙ rw (lt-ltb p (q + n) l, le-ltb q p k)
-
-  pub covered-onward : q + n ≤ p → coverIn (divide (drop at s) 0) at p ≡ coverIn (divide (drop (q + n) s) 0) (q + n) p
-  covered-onward l = h .covers ∙ rw (le-ltb p (q + n) l)
 
 -- ---- the reason at a position
 module _ (s : List ℕ) (p : ℕ) where

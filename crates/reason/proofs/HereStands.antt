@@ -38,10 +38,10 @@ module _ (xs : List ℕ) (n : ℕ) (long : 15 ≤ n) (here : n ≤ length xs) wh
   residue-is : checksumOf (drop 4 (take n xs)) ≡ residueOf n xs
   residue-is = let z : 4 + (n - 4) ≡ n = omega arith in ap (λ k. checksumOf (drop 4 (take k xs))) (sym z) ∙ ap checksumOf (drop-take 4 (n - 4) xs)
 
-  pub agrees-zero : agrees (take n xs) ≡ true → residueOf n xs ≡ 0
+  agrees-zero : agrees (take n xs) ≡ true → residueOf n xs ≡ 0
   agrees-zero e = sym residue-is ∙ residue-zero (take n xs) (omega (arith, length-take-le n xs here)) e
 
-  pub zero-agrees-with : residueOf n xs ≡ 0 → agrees (take n xs) ≡ true
+  zero-agrees-with : residueOf n xs ≡ 0 → agrees (take n xs) ≡ true
   zero-agrees-with e = zero-agrees (take n xs) (omega (arith, length-take-le n xs here)) (residue-is ∙ e)
 
 said-stands : (xs : List ℕ) (c : Claim) → claim xs ≡ c → ClaimFact xs c → Stands xs (saidBy c xs)

@@ -233,7 +233,8 @@ fn print_reasons(recording: &mut [u8], text: &mut [u8]) {
     write_out(text, waiting);
 }
 
-// Why each position of a short recording is or is not the first of a message. No line of it takes more than 20 bytes.
+// Why each position of a short recording is or is not the first of a message. The text has room for 20 bytes a line and the heading, which no recording
+// needs more of (promises/proofs/Room.antt).
 pub fn reasons()
     ensures { λ r. ⌜ r ≡ tt ⌝ }
 {

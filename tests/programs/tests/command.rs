@@ -80,6 +80,43 @@ fn the_longest_messages() {
     answers(&release("longest"), &recording, [1, LONGEST, LONGEST + 1, LONGEST + 2, 2 * LONGEST, 2 * LONGEST + 1]);
 }
 
+/// 264-04's messages as they are printed, whose checksums leave VERSION out, and by the rule; 264-21's.
+#[test]
+fn published_messages() {
+    let release = release("published");
+    for recording in [
+        &include_bytes!("../../../crates/vectors/data/264-04-table-4.bin")[..],
+        include_bytes!("../../../crates/vectors/data/264-04-table-4-by-the-rule.bin"),
+        include_bytes!("../../../crates/vectors/data/264-21-figure-1.bin"),
+    ] {
+        answers(&release, recording, [24, 25, 26, 183, 184, 185, 186, 253, 254, recording.len() - 1]);
+    }
+}
+
+/// Messages of both forms with sync letters in a phase, a whole one inside another among them: whole, and cut at every length.
+#[test]
+fn sync_letters_and_cut_messages() {
+    let release = release("cut");
+    answers(&release, b"MACMAC2", 0..7);
+    answers(&release, b"xMACMACM", 0..8);
+    let phase = u64::from_be_bytes(*b"MACM\x02\x00\x0E\xA0");
+    let observation = Observation { phase, pseudorange: 0x0C90_407C, rate: 0x1000_1C00, ..Default::default() };
+    for header in [Header::Old { version: 2, time: 0, offset: 0 }, Header::New { signal: 0, tfom: 0, time: 0, offset: 0 }] {
+        let message = Message { header, observations: vec![observation] }.to_bytes();
+        answers(&release, &message, 0..message.len());
+        for length in 1..message.len() {
+            answers(&release, &message[..length], [0, length - 1]);
+        }
+    }
+}
+
+/// The sample recording, at one position in many; all of them take minutes.
+#[test]
+fn the_sample_recording() {
+    let recording = programs::recording();
+    answers(&release("sample"), &recording, (0..recording.len()).step_by(89));
+}
+
 #[test]
 fn many_streams() {
     let release = release("streams");
