@@ -105,7 +105,7 @@ fn sync_letters_and_cut_messages() {
         let message = Message { header, observations: vec![observation] }.to_bytes();
         answers(&release, &message, 0..message.len());
         for length in 1..message.len() {
-            answers(&release, &message[..length], [0, length - 1]);
+            answers(&release, &message[..length], [0]);
         }
     }
 }
@@ -114,7 +114,7 @@ fn sync_letters_and_cut_messages() {
 #[test]
 fn the_sample_recording() {
     let recording = programs::recording();
-    answers(&release("sample"), &recording, (0..recording.len()).step_by(89));
+    answers(&release("sample"), &recording, (0..recording.len()).step_by(179));
 }
 
 #[test]
