@@ -1,6 +1,6 @@
 #!/bin/sh
-# Makes what is stored of the second reader's output: the sample recordings, the listing and the rows of one, and what the programs have to print for rt.
-# `samples/make.sh check` compares instead, and fails where a file differs.
+# Makes what is stored of the second reader's output: the sample recordings, the listing and the rows of one, and what the programs have to print for
+# rt and the C host for its test. `samples/make.sh check` compares instead, and fails where a file differs.
 set -u
 root=$(cd "$(dirname "$0")/.." && pwd -P) || exit 2
 cd "$root/tests" || exit 2
@@ -27,4 +27,5 @@ stored crates/rows/stdout rows "$root/crates/rows/stdin"
 stored crates/why/stdin every-reason
 stored crates/why/stdout why "$root/crates/why/stdin"
 stored crates/vectors/stdout vectors
+stored tests/host/expected.txt host
 exit $failed

@@ -1,10 +1,12 @@
 //! What the programs have to print, from the second reader and by other means than theirs: Rust's formatting, exact decimal expansions, strings.
 
+mod host;
 mod sample;
 mod started;
 mod vectors;
 mod why;
 
+pub use host::host;
 pub use sample::{every_reason, recording};
 pub use started::{offered, printed, started};
 pub use vectors::vectors;

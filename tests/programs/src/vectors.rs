@@ -4,12 +4,12 @@ use reader::{check, divide, feed, finish, range_um, Answer, State, LONGEST};
 
 use crate::{line, rows_of};
 
-const PUBLISHED: [(&str, &[u8]); 3] = [
+pub(crate) const PUBLISHED: [(&str, &[u8]); 3] = [
     ("264-21-figure-1.bin", include_bytes!("../../../crates/vectors/data/264-21-figure-1.bin")),
     ("264-04-table-4.bin", include_bytes!("../../../crates/vectors/data/264-04-table-4.bin")),
     ("264-04-table-4-by-the-rule.bin", include_bytes!("../../../crates/vectors/data/264-04-table-4-by-the-rule.bin")),
 ];
-const NEW: &[u8] = b"MAC2\x00\x00\x00\x0E\xA0\x0C\x90\x40\x7C\x10\x00\x1E";
+pub(crate) const NEW: &[u8] = b"MAC2\x00\x00\x00\x0E\xA0\x0C\x90\x40\x7C\x10\x00\x1E";
 const OLD: &[u8] = b"MACM\x02\x00\x0E\xA0\x0C\x90\x40\x7C\x10\x00\x1C";
 
 fn given(gap: usize, position: usize, message: &[u8]) -> String {

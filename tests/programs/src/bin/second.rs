@@ -1,4 +1,4 @@
-//! The second reader as a program: what `listing`, `rows`, `why` and `vectors` have to print, and the sample recordings.
+//! The second reader as a program: what `listing`, `rows`, `why`, `vectors` and the C host have to print, and the sample recordings.
 
 use std::io::{self, Read, Write};
 
@@ -13,10 +13,11 @@ fn main() -> io::Result<()> {
         "rows" => programs::rows(&stream).into_bytes(),
         "why" => programs::why(&stream).into_bytes(),
         "vectors" => programs::vectors().into_bytes(),
+        "host" => programs::host().into_bytes(),
         "sample" => programs::recording(),
         "every-reason" => programs::every_reason(),
         _ => {
-            eprintln!("second: one of listing, rows, why, vectors, sample, every-reason");
+            eprintln!("second: one of listing, rows, why, vectors, host, sample, every-reason");
             std::process::exit(2);
         }
     };

@@ -1,0 +1,34 @@
+//! What the C host `tests/host/recording.c` has to print: of the published messages, of S12, and of nothing.
+
+use reader::{divide, phase, range_um, Form, Message, Observation, Phase};
+
+use crate::time;
+use crate::vectors::{NEW, PUBLISHED};
+
+fn observed(form: Form, observation: &Observation) -> String {
+    let cycles = match phase(form, observation) {
+        Phase::Withheld => "withheld".to_string(),
+        Phase::NotFinite => "not finite".to_string(),
+        Phase::Cycles(cycles) => format!("{cycles:.6}"),
+    };
+    format!("  sid {} range_um {} rate {} phase {cycles}\n", observation.sid, range_um(observation.pseudorange), observation.rate)
+}
+
+fn recording(stream: &[u8]) -> String {
+    let division = divide(stream);
+    let mut text = String::new();
+    for given in &division.given {
+        let message = Message::from_bytes(&stream[given.position..given.position + given.length]).expect("the division gives valid messages");
+        let form = message.header.form();
+        let (name, count) = (if form == Form::New { "new" } else { "old" }, message.observations.len());
+        text += &format!("at {} bytes {} gap {} form {name} count {count} time {}\n", given.position, given.length, given.gap, time(message.header));
+        text.extend(message.observations.iter().map(|observation| observed(form, observation)));
+    }
+    text + &format!("end {} gap {}\n", stream.len(), division.rest)
+}
+
+pub fn host() -> String {
+    let published = PUBLISHED.map(|(name, stream)| format!("{}\n{}", name.trim_end_matches(".bin"), recording(stream))).concat();
+    let s12 = recording(&[b"MAC", NEW].concat());
+    format!("{published}S12, from standard input\n{s12}nothing, from standard input\n{}", recording(&[]))
+}
