@@ -143,7 +143,8 @@ cs_answer cs_feed(cs_state *state, const uint8_t *piece, size_t piece_length, ui
  * each time. It leaves window and output as cs_feed does; at the end the output stays as it was and the window is all zeros. Refuses with 8, 9. */
 cs_answer cs_finish(cs_state *state, uint8_t *window, size_t window_length, uint8_t *output, size_t output_length);
 
-/* The range in micrometres of a pseudorange as PR has it. */
+/* The range in micrometres of a pseudorange as PR has it: PR times 149896229, plus 7,500, divided by 15,000, rounded down. That is as far as light goes
+ * in PR at 299792458 m/s, to the nearest. Before version 1.2 it went by the standards' printed factor and was 3.3 parts in 10^10 low. */
 uint64_t cs_range_um(uint32_t pseudorange);
 
 /* The milliseconds since lock of a lock count as LOCKTIME has it. */
@@ -152,7 +153,7 @@ uint64_t cs_lock_ms(uint32_t lock);
 /* The phase of an observation in a message of this form (CS_OLD, or else the new form). */
 cs_cycles cs_phase(uint64_t form, cs_observation observation);
 
-/* The plot row of a pseudorange and a rate as PR and RATE have them. */
+/* The plot row of a pseudorange and a rate as PR and RATE have them: within 4 nm of the range that cs_range_um answers, and within 2/10^11 Hz. */
 cs_row cs_plot_row(uint32_t pseudorange, int32_t rate);
 
 #ifdef __cplusplus

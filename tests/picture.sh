@@ -17,7 +17,7 @@ for panel in range rate cn0; do
     [ "$(wc -l <"target/points/$panel")" -eq 472 ] || fail "the picture does not show every $panel"
 done
 [ "$(head -n 1 target/points/range) $(head -n 1 target/points/rate) $(head -n 1 target/points/cn0)" = \
-    '1 245370.000 20583.194114 1 245370.000 1681.600000 1 245370.000 47' ] || fail "the picture shows other numbers"
+    '1 245370.000 20583.194121 1 245370.000 1681.600000 1 245370.000 47' ] || fail "the picture shows other numbers"
 [ "$(tr '\n' ' ' <target/points/gaps)" = '245370.000 30 245390.500 112 245420.000 5 ' ] || fail "the picture shows other gaps: $(cat target/points/gaps)"
 grep -qx "names = '0/2 0/7 0/14 0/24 old/2 old/7 old/14 old/24 '" target/points/facts || fail "the picture names its satellites otherwise"
 grep -qx 'behind_bytes = 70' target/points/facts || fail "the picture's last gap is another"

@@ -21,6 +21,17 @@ printf 'at bytes form obs time\nend 0 messages 0 gap 0\n' >target/empty.listing
 cat samples/sortie.macm | ./cablesound list /dev/stdin | cmp -s - samples/sortie.listing || fail "list of a pipe"
 ln -sf ../cablesound target/linked && target/linked list samples/sortie.macm | cmp -s - samples/sortie.listing || fail "list by a link to the command"
 
+# Ranges by the printed factor, as rows had them before E2, and those of the same PR since: the README's line tells them apart, and its factor mends them.
+printf '%s\n' '20572019.760204 20572019.767066' '23610834.011859 23610834.019735' '29949999.996451 29950000.006442' '42919960.065605 42919960.079922' >target/ranges
+tells=$(sed -n 's|^    \(awk .*\) samples/sortie.rows$|\1|p' README.md)
+for column in 1 2; do
+    awk -v column="$column" 'BEGIN { print "heading" } { print "- - - - - - -", $column }' target/ranges >"target/ranges.$column"
+done
+[ "$(eval "$tells" target/ranges.1)" = '0 by the speed of light, 4 by the printed factor' ] || fail "old ranges are taken for new ones"
+[ "$(eval "$tells" target/ranges.2)" = '4 by the speed of light, 0 by the printed factor' ] || fail "new ranges are taken for old ones"
+[ "$(eval "$tells" samples/sortie.rows)" = '472 by the speed of light, 0 by the printed factor' ] || fail "the sample's ranges are taken for old ones"
+awk '{ off = $1 * (1 + 1 / 2997924579) - $2; if (off * off > 1e-12) exit 1 }' target/ranges || fail "an old range is not mended by the README's factor"
+
 # Why: of every position, or of one, which is the same line.
 for _ in 1 2 3 4 5 6 7 8; do cat samples/sortie.macm; done >target/long.macm
 ./cablesound why crates/why/stdin | cmp -s - crates/why/stdout || fail "why prints something else than crates/why/stdout"

@@ -2,6 +2,7 @@ pub mod DemandOne
 pub mod DemandTwo
 pub mod DemandThree
 pub mod Reasons
+pub mod Ranges
 pub mod WrongPrograms
 pub mod Numbers
 pub mod Unchanged

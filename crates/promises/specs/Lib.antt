@@ -4,6 +4,7 @@ pub mod Again
 pub mod Run
 pub mod Given
 pub mod Reason
+pub mod Range
 pub mod Numbers
 pub mod Calls
 pub mod InPlace

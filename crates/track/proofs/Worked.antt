@@ -1,4 +1,4 @@
--- Worked values, from the definitions: 000's first observation, A's OFFSET, the phases at the edge, and the smallest rows. Assumes nothing.
+-- Worked values, from the definitions: 000's first observation, A's OFFSET, the phases at the edge, E2's ranges, and the smallest rows. Assumes nothing.
 use Prim.Native.Nat.{ℕ}
 use mathlib.Core.Path.{_≡_, refl}
 use mathlib.Core.Bool.{true, false}
@@ -60,6 +60,15 @@ old-form = refl
 pub offset : offsetOf (record { form = new; time = 245370000; offset = 0x407C1000 }) ≡ Metres (fin false 4033 (negsuc 9))
 unfolding ofBits
 offset = refl
+
+-- that observation's, 20572.02 km, and the longest
+pub published-range : rangeOf (observed 0 .pseudorange) ≡ 20572019767066
+unfolding rangeOf
+published-range = refl
+
+pub longest-range : rangeOf 4294967295 ≡ 42919960079922
+unfolding rangeOf
+longest-range = refl
 
 -- no sign where there is no rate; 0.009993 m and -0.0001 Hz, as near as doubles are
 pub row-of-nothing : rowOf 0 (pos 0) ≡ record { range = fin false 0 (pos 0); rate = fin false 0 (pos 0) }

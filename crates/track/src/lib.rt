@@ -68,11 +68,11 @@ pub enum Condition {
 
 // ---- range and rate
 
-// The range in whole micrometres: 000's printed factor is 9993.08193 of them for each count of PR.
+// The range in whole micrometres, to the nearest: in a count of PR light goes 149896229 / 15,000 of them.
 pub fn range_of(pseudorange: u32) -> u64
     ensures { λ r. ⌜ r ≡ rangeOf pseudorange ⌝ }
 {
-    (pseudorange as u64 * 999308193 + 50000) / 100000
+    (pseudorange as u64 * 149896229 + 7500) / 15000
 }
 
 // The row of PR and RATE. A range is below 2^53 micrometres and RATE below 2^31, so both are doubles exactly, and each division rounds once.

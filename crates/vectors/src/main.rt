@@ -95,6 +95,13 @@ fn put_printed_checks(text: &mut [u8], at: usize) -> usize {
 
 // ---- the lines to be run
 
+// The ranges of E2: the least, that of 264-21's first observation, the longest.
+fn put_ranges(text: &mut [u8], at: usize) -> usize {
+    let next = put_count(text, at, b"range ", track::range_of(1));
+    let next = put_count(text, next, b"range ", track::range_of(2058626148));
+    put_count(text, next, b"range ", track::range_of(4294967295))
+}
+
 // S12 by the stream reader: fed whole, then finished twice.
 fn put_calls(text: &mut [u8], at: usize) -> usize {
     let mut window = [0u8; 6136];
@@ -116,7 +123,7 @@ fn main() {
     let at = put_published(&mut text, at, b"264-04-table-4.bin");
     let at = put_printed_checks(&mut text, at);
     let at = put_published(&mut text, at, b"264-04-table-4-by-the-rule.bin");
-    let at = put_count(&mut text, at, b"range ", track::range_of(4294967295));
+    let at = put_ranges(&mut text, at);
     let at = text::put_all(&mut text, at, b"A then B\n");
     let both =
         b"MAC2\x00\x00\x00\x0E\xA0\x0C\x90\x40\x7C\x10\x00\x1EMACM\x02\x00\x0E\xA0\x0C\x90\x40\x7C\x10\x00\x1C";

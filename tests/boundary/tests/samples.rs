@@ -86,8 +86,10 @@ fn overlapping_starts_in_three_pieces() {
 
 #[test]
 fn ranges_and_rates() {
-    assert_eq!(board::range_um(1), 9993);
-    assert_eq!(board::range_um(4_294_967_295), 42_919_960_065_605);
+    for (pseudorange, range) in [(1, 9_993), (2_058_626_148, 20_572_019_767_066), (4_294_967_295, 42_919_960_079_922)] {
+        assert_eq!(board::range_um(pseudorange), range);
+        assert_eq!(board::plot_row(pseudorange, 0).range, range as f64 / 1e6);
+    }
     assert_eq!(board::lock_ms(4_294_967_295), 8_589_934_590);
     for (bytes, rate) in [([0; 4], 0), ([0xFF; 4], -1), ([0x7F, 0xFF, 0xFF, 0xFF], 2147483647), ([0x80, 0, 0, 0], -2147483648)] {
         let mut message = [0; 40];
@@ -100,7 +102,7 @@ fn ranges_and_rates() {
     }
 }
 
-/// The remainder that decides about rounding runs through all its values within 100,000 ranges.
+/// The remainder that decides about rounding runs through all its values within 15,000 ranges.
 #[test]
 fn every_rounding_of_a_range() {
     for pseudorange in (0..100_000).chain(u32::MAX - 100_000..=u32::MAX) {

@@ -55,7 +55,7 @@ pub fn vectors() -> String {
             }
         }
     }
-    text += &format!("range {}\n", range_um(u32::MAX));
+    text += &[1, 2_058_626_148, u32::MAX].map(|pseudorange| format!("range {}\n", range_um(pseudorange))).concat();
     text += &format!("A then B\n{}", recording(&[NEW, OLD].concat()));
     text + "S12\n" + &calls()
 }

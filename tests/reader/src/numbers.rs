@@ -2,9 +2,15 @@
 
 use crate::message::{Form, Observation};
 
-/// The range in micrometres: PR times 999308193, plus 50,000, divided by 100,000, rounded down.
+/// Metres a second, and the counts of PR in a second: 264-21's own words for PR.
+const SPEED_OF_LIGHT: u128 = 299_792_458;
+const COUNTS_A_SECOND: u128 = 30_000_000_000;
+
+/// The range in micrometres: how far light goes in PR counts, to the nearest, and at a tie to the higher.
 pub fn range_um(pseudorange: u32) -> u64 {
-    ((u128::from(pseudorange) * 999_308_193 + 50_000) / 100_000) as u64
+    let counted = u128::from(pseudorange) * SPEED_OF_LIGHT * 1_000_000;
+    let (whole, rest) = (counted / COUNTS_A_SECOND, counted % COUNTS_A_SECOND);
+    (if rest < COUNTS_A_SECOND - rest { whole } else { whole + 1 }) as u64
 }
 
 /// The milliseconds since lock.

@@ -23,7 +23,14 @@ fn sample_table() {
     assert_eq!(check(&A[..15]), Err(3));
     assert_eq!(checksum(&[0x96, 0x85, 0xC1]), 0xD2);
     assert_eq!(range_um(1), 9993);
-    assert_eq!(range_um(4294967295), 42919960065605);
+}
+
+/// E2's numbers, and a tie: 7,500 counts are 74,948,114.5 micrometres.
+#[test]
+fn ranges_by_the_speed_of_light() {
+    for (pseudorange, range) in [(0, 0), (1, 9993), (2058626148, 20572019767066), (4294967295, 42919960079922), (7500, 74948115)] {
+        assert_eq!(range_um(pseudorange), range, "PR {pseudorange}");
+    }
 }
 
 #[test]
