@@ -1,5 +1,5 @@
--- E2: what a range is, and what ranges of before E2 are worth. Assumes nothing.
-use Prim.Native.Nat.{ℕ, suc, _+_, _*_, _/_, _^_, _<_}
+-- E2: what a range is, by how much one by the printed factor is low, and that a range tells which factor made it. Assumes nothing.
+use Prim.Native.Nat.{ℕ, suc, _*_, _^_, _<_}
 use mathlib.Core.Path.{_≡_, refl}
 use mathlib.Core.Bool.{Bool, true, false}
 use mathlib.Core.Logic.{inl, inr}
@@ -18,8 +18,8 @@ pub printed-is-low : (pseudorange : ℕ) → Low pseudorange
 unfolding rangeOf
 printed-is-low pseudorange = record { never-high = omega arith; no-less = omega arith; no-more = omega arith }
 
--- so a range tells which of the two factors made it, wherever it is not doubtful: q counts by the printed factor are the same range as p counts of light
--- where they are as many, near 0, or one more, near 29,958.5 km; at two more p is no PR any longer
+-- Only a doubtful range is one of both factors: of p counts by light and of q by the printed one, where q is p, near nothing, or one more, near
+-- 29,958.5 km. Where it is two more, p is no PR any longer.
 pub tells : (p q : ℕ) → p < 2 ^ 32 → rangeOf p ≡ printedOf q → Doubtful p
 unfolding rangeOf
 tells p q l e = go (leb q p) (leb q (suc p)) refl refl
