@@ -1,4 +1,5 @@
 pub mod Skipping
+pub mod WorkSteps
 pub mod WalkSteps
 pub mod DivideSteps
 pub mod PlainSteps

@@ -1,4 +1,5 @@
 pub mod Division
+pub mod Work
 pub mod Walk
 pub mod Plain
 pub mod Steps

@@ -8,7 +8,8 @@ use lib.ListN.{length, getD, drop}
 use Rattle.division.specs.declared.Step.{Step}
 use Rattle.division.specs.declared.Step.the-variants.{On, Stop}
 use Rattle.division.specs.declared.Walked.the-variants.{Unsettled}
-use Rattle.division.specs.Walk.{walkOf}
+use Rattle.division.specs.Walk.{walkOf, settled}
+use Rattle.division.specs.Work.{testedIn}
 
 -- no sync string starts at index i: no M stands there, or no A behind it
 abbrev pub NoStart : List ℕ → ℕ → Type 0
@@ -21,10 +22,11 @@ pub record Skipped (s : List ℕ) (from r : ℕ) : Type 0 where
   pub none : (i : ℕ) → from ≤ i → i < r → NoStart s i
 
 abbrev pub wanted : Bool → ℕ → ℕ → Step
-wanted true at reach = On (at + 1) reach
-wanted false at reach = Stop (Unsettled at)
+wanted true at reach = On (at + 1) reach 0
+wanted false at reach = Stop (Unsettled at) 0
 
--- the walk from a position is the walk from where the step goes on, or stops as the step does
+-- the walk from a position is the walk from where the step goes on, or stops as the step does; and the step has tested the positions between
 abbrev pub Stepped : Bool → List ℕ → ℕ → ℕ → Step → Type 0
-Stepped ended s at reach (On at′ reach′) = (at < at′) × (at′ ≤ length s) × (walkOf ended (drop at s) at reach ≡ walkOf ended (drop at′ s) at′ reach′)
-Stepped ended s at reach (Stop w) = (walkOf ended (drop at s) at reach ≡ w)
+Stepped ended s at reach (On at′ reach′ u) =
+    (at < at′) × (at′ ≤ length s) × (walkOf ended (drop at s) at reach ≡ walkOf ended (drop at′ s) at′ reach′) × (testedIn at′ s ≡ testedIn at s + u)
+Stepped ended s at reach (Stop w u) = (walkOf ended (drop at s) at reach ≡ w) × (testedIn (settled w) s ≡ testedIn at s + u)

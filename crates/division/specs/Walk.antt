@@ -1,5 +1,5 @@
 -- A walk over the positions of a list, in turn, to the first message or to the first that is not settled. Definitions only.
-use Prim.Native.Nat.{ℕ, suc, _+_}
+use Prim.Native.Nat.{ℕ, suc, _+_, _%_, _^_}
 use mathlib.Core.Bool.{Bool, true, false, cond}
 use mathlib.Core.List.{List, [], _∷_}
 use lib.ListN.{length, take}
@@ -8,8 +8,10 @@ use Rattle.macm.specs.Check.{agrees}
 use Rattle.front.specs.declared.Claim.{Claim}
 use Rattle.front.specs.declared.Claim.the-variants.{Nothing, AtLeast, Long}
 use Rattle.front.specs.Claim.{claim}
+use Rattle.division.specs.declared.Passage.{Passage}
 use Rattle.division.specs.declared.Walked.{Walked}
 use Rattle.division.specs.declared.Walked.the-variants.{Message, Unsettled}
+use Rattle.division.specs.Work.{testedIn}
 
 abbrev pub further : ℕ → ℕ → ℕ
 further a b = cond (ltb a b) b a
@@ -32,3 +34,12 @@ walkedBy ended (Long n) xs at reach on =
 unfoldable pub walkOf : Bool → List ℕ → ℕ → ℕ → Walked
 walkOf ended [] at reach = Unsettled at
 walkOf ended (x ∷ xs) at reach = walkedBy ended (claim (x ∷ xs)) (x ∷ xs) at reach (λ t. walkOf ended xs (suc at) t)
+
+-- the positions that a walk from the first one on has settled: the gap bytes, and the message's own
+abbrev pub settled : Walked → ℕ
+settled (Message at n reach) = suc at
+settled (Unsettled at) = at
+
+-- a walk from the first position on, with the bytes run through the checksum for those that it settled
+abbrev pub wholeWalk : Bool → List ℕ → Passage
+wholeWalk ended xs = record { walked = walkOf ended xs 0 0; summed = testedIn (settled (walkOf ended xs 0 0)) xs % 2 ^ 64 }

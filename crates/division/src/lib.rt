@@ -7,7 +7,7 @@ ghost use mathlib.Core.Logic.{_⊎_};
 ghost use Prim.Native.Nat.{ℕ, _+_, _^_, _<_, _≤_};
 ghost use denote.Ref.{ptr};
 ghost use lib.ListN.{length};
-ghost use Rattle.division.specs.Walk.{further, walkOf};
+ghost use Rattle.division.specs.Walk.{further, wholeWalk};
 ghost use Rattle.division.specs.Plain.{nextOf, placeOf, bytesIn};
 ghost use Rattle.division.specs.Steps.{NoStart, Skipped, wanted, Stepped};
 
@@ -16,6 +16,12 @@ ghost use Rattle.division.specs.Steps.{NoStart, Skipped, wanted, Stepped
 pub enum Walked {
     Message(usize, usize, usize),
     Unsettled(usize),
+}
+
+// Where a walk stops, and the bytes that it ran through the checksum, as far as 64 bits hold their number.
+pub struct Passage {
+    pub walked: Walked,
+    pub summed: usize,
 }
 
 // What the plain reader answers: a refusal; a message with its position in the whole slice, its length and the gap bytes before it;
@@ -32,10 +38,11 @@ pub enum Next {
     },
 }
 
-// A step of a walk: it goes on from a position, with so many bytes needed up to there; or it stops.
+// A step of a walk: it goes on from a position, with so many bytes needed up to there; or it stops. Either way the bytes that it ran through the
+// checksum.
 enum Step {
-    On(usize, usize),
-    Stop(Walked),
+    On(usize, usize, usize),
+    Stop(Walked, usize),
 }
 
 // ---- over bytes that begin no sync string
@@ -122,9 +129,9 @@ fn wants(ended: bool, at: usize, reach: usize) -> Step
     ensures { λ r. ⌜ r ≡ wanted ended at reach ⌝ }
 {
     if ended {
-        return Step::On(at + 1, reach);
+        return Step::On(at + 1, reach, 0);
     }
-    Step::Stop(Walked::Unsettled(at))
+    Step::Stop(Walked::Unsettled(at), 0)
 }
 
 // One position: settled as gap or as message, or not settled.
@@ -133,7 +140,7 @@ fn settle(ended: bool, bytes: &[u8], at: usize, reach: usize) -> Step
     ensures { λ r. ⌜ Stepped ended (now (bytes .entry)) at reach r ⌝ }
 {
     match front::claims(&bytes[at..]) {
-        Claim::Nothing => Step::On(next_start(bytes, at + 1), reach),
+        Claim::Nothing => Step::On(next_start(bytes, at + 1), reach, 0),
         Claim::AtLeast(_) => wants(ended, at, reach),
         Claim::Long(n) => {
             if bytes.len() - at < n {
@@ -141,32 +148,42 @@ fn settle(ended: bool, bytes: &[u8], at: usize, reach: usize) -> Step
             }
             let end = at + n;
             let needed = furthest(reach, end);
-            if macm::agreeing(&bytes[at..end]) {
-                return Step::Stop(Walked::Message(at, n, needed));
+            let agreement = macm::agreeing(&bytes[at..end]);
+            let summed = agreement.summed;
+            if agreement.agrees {
+                return Step::Stop(Walked::Message(at, n, needed), summed);
             }
-            Step::On(at + 1, needed)
+            Step::On(at + 1, needed, summed)
         }
     }
 }
 
 // The positions in turn, to the first message or to the first that is not settled. `ended` says whether the stream ends behind the bytes.
-pub fn walk(ended: bool, bytes: &[u8]) -> Walked
-    ensures { λ r. ⌜ r ≡ walkOf ended (now (bytes .entry)) 0 0 ⌝ }
+pub fn walk(ended: bool, bytes: &[u8]) -> Passage
+    ensures { λ r. ⌜ r ≡ wholeWalk ended (now (bytes .entry)) ⌝ }
 {
     let mut at = 0;
     let mut reach = 0;
+    let mut summed = 0;
     while at < bytes.len() {
         match settle(ended, bytes, at, reach) {
-            Step::On(next, needed) => {
+            Step::On(next, needed, more) => {
                 at = next;
                 reach = needed;
+                summed = std::num::wrapping_add_usize(summed, more);
             }
-            Step::Stop(walked) => {
-                return walked;
+            Step::Stop(walked, more) => {
+                return Passage {
+                    walked,
+                    summed: std::num::wrapping_add_usize(summed, more),
+                };
             }
         }
     }
-    Walked::Unsettled(at)
+    Passage {
+        walked: Walked::Unsettled(at),
+        summed,
+    }
 }
 
 // ---- the plain reader
@@ -178,7 +195,9 @@ pub fn next_message(recording: &[u8], start: usize) -> Next
     if recording.len() < start {
         return Next::Refused(Refusal::PastEnd);
     }
-    match walk(true, &recording[start..]) {
+    let passage = walk(true, &recording[start..]);
+    let walked = passage.walked;
+    match walked {
         Walked::Message(gap, length, _) => Next::Message {
             position: start + gap,
             length,

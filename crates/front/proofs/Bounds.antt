@@ -15,11 +15,11 @@ use Rattle.octets.proofs.Begins.{Fits, fit-common}
 use Rattle.macm.specs.declared.Form.{Form}
 use Rattle.macm.specs.declared.Form.the-variants.{New, Old}
 use Rattle.macm.specs.Form.{newSync, oldSync, countAt, size}
-use Rattle.macm.specs.Check.{agrees}
+use Rattle.macm.specs.Check.{covered, agrees}
 use Rattle.front.specs.declared.Claim.{Claim}
 use Rattle.front.specs.declared.Claim.the-variants.{Nothing, AtLeast, Long}
 use Rattle.front.specs.Claim.{cap, counted, claimBy, claim}
-use Rattle.front.specs.Look.{Look, unsettled, gap, message, judged, lookBy, look, needBy, need}
+use Rattle.front.specs.Look.{Look, unsettled, gap, message, judged, lookBy, look, testedBy, tested, needBy, need}
 
 -- the bytes of the longest message
 abbrev pub most : ℕ
@@ -78,3 +78,17 @@ need-most xs = go (claim xs) (claim-fact xs)
     go Nothing h = omega arith
     go (AtLeast k) h = omega arith
     go (Long n) h = omega arith
+
+-- ---- no more bytes are run through the checksum to settle a position than the longest message covers
+pub tested-most : (xs : List ℕ) → tested xs ≤ covered most
+unfolding tested testedBy
+tested-most xs = go (claim xs) (claim-fact xs)
+  where
+    go : (c : Claim) → ClaimFact xs c → testedBy c xs ≤ covered most
+    go Nothing h = omega arith
+    go (AtLeast k) h = omega arith
+    go (Long n) h = test (leb n (length xs))
+      where
+        test : (t : Bool) → cond t (covered n) 0 ≤ covered most
+        test true = omega arith
+        test false = omega arith

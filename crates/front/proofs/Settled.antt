@@ -14,11 +14,11 @@ use Rattle.octets.specs.declared.Fit.the-variants.{Whole, Part, Bad}
 use Rattle.macm.specs.declared.Form.{Form}
 use Rattle.macm.specs.declared.Form.the-variants.{New, Old}
 use Rattle.macm.specs.Form.{newSync, oldSync, countAt, size}
-use Rattle.macm.specs.Check.{agrees}
+use Rattle.macm.specs.Check.{covered, agrees}
 use Rattle.front.specs.declared.Claim.{Claim}
 use Rattle.front.specs.declared.Claim.the-variants.{Nothing, AtLeast, Long}
 use Rattle.front.specs.Claim.{cap, counted, claimBy, claim}
-use Rattle.front.specs.Look.{Look, unsettled, gap, message, judged, lookBy, look}
+use Rattle.front.specs.Look.{Look, unsettled, gap, message, judged, lookBy, look, testedBy, tested}
 
 abbrev pub keepFit : Fit → Fit → Fit
 keepFit Whole d = Whole
@@ -93,4 +93,30 @@ look-append xs ys = go (claim xs) (claim (xs ++ ys)) (claim-append xs ys)
         test true e =
             let l : n ≤ length xs = leb-true _ _ e in
             rw (le-leb n (length (xs ++ ys)) (omega (arith, length-append xs ys)), take-append-le n xs ys l) (kept (agrees (take n xs)))
+        test false e = refl
+
+-- and so do the bytes run through the checksum for it
+abbrev pub keepTested : Look → ℕ → ℕ → ℕ
+keepTested unsettled n m = m
+keepTested gap n m = n
+keepTested (message k) n m = n
+
+pub tested-append : (xs ys : List ℕ) → tested (xs ++ ys) ≡ keepTested (look xs) (tested xs) (tested (xs ++ ys))
+unfolding tested testedBy look lookBy judged
+tested-append xs ys = go (claim xs) (claim (xs ++ ys)) (claim-append xs ys)
+  where
+    go : (c d : Claim) → d ≡ keepClaim c d → testedBy d (xs ++ ys) ≡ keepTested (lookBy c xs) (testedBy c xs) (testedBy d (xs ++ ys))
+    go Nothing d p = rw p
+    go (AtLeast k) d p = refl
+    go (Long n) d p = rw p (test (leb n (length xs)) refl)
+      where
+        kept : (t : Bool) → covered n ≡ keepTested (cond t (message n) gap) (covered n) (covered n)
+        kept true = refl
+        kept false = refl
+
+        test : (t : Bool) → leb n (length xs) ≡ t
+            → cond (leb n (length (xs ++ ys))) (covered n) 0 ≡ keepTested (cond t (judged n xs) unsettled) (cond t (covered n) 0) (cond (leb n (length (xs ++ ys))) (covered n) 0)
+        test true e =
+            let l : n ≤ length xs = leb-true _ _ e in
+            rw (le-leb n (length (xs ++ ys)) (omega (arith, length-append xs ys))) (kept (agrees (take n xs)))
         test false e = refl

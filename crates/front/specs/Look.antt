@@ -4,7 +4,7 @@ use mathlib.Core.Bool.{cond}
 use mathlib.Core.List.{List}
 use lib.ListN.{length, take}
 use lib.Dec.{leb}
-use Rattle.macm.specs.Check.{agrees}
+use Rattle.macm.specs.Check.{covered, agrees}
 use Rattle.front.specs.declared.Claim.{Claim}
 use Rattle.front.specs.declared.Claim.the-variants.{Nothing, AtLeast, Long}
 use Rattle.front.specs.Claim.{claim}
@@ -27,6 +27,15 @@ lookBy (Long n) xs = let j = judged n xs in cond (leb n (length xs)) j unsettled
 
 unfoldable pub look : List ℕ → Look
 look xs = lookBy (claim xs) xs
+
+-- the bytes that are run through the checksum to settle it: those that it covers, where a sync string stands and the whole length is here; else none
+unfoldable pub testedBy : Claim → List ℕ → ℕ
+testedBy Nothing xs = 0
+testedBy (AtLeast k) xs = 0
+testedBy (Long n) xs = cond (leb n (length xs)) (covered n) 0
+
+unfoldable pub tested : List ℕ → ℕ
+tested xs = testedBy (claim xs) xs
 
 -- the bytes that have to be here before more can be said
 unfoldable pub needBy : Claim → ℕ

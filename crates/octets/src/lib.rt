@@ -7,7 +7,7 @@ ghost use lib.IntN.{negsuc};
 ghost use lib.ListN.{length, take, replicate};
 ghost use lib.Signed.{mag};
 ghost use Rattle.octets.specs.Begins.{common, fit, begins};
-ghost use Rattle.octets.specs.Checksum.{checksumOf};
+ghost use Rattle.octets.specs.Checksum.{summedOf};
 ghost use Rattle.octets.specs.Numbers.{number, bytesOf};
 ghost use Rattle.octets.specs.Parts.{over};
 ghost use Rattle.octets.specs.Signed.{half, signedOf, rawOf};
@@ -19,17 +19,23 @@ pub enum Fit {
     Bad,
 }
 
-// The exclusive or of every byte.
-pub fn checksum(s: &[u8]) -> u8
-    ensures { λ r. ⌜ r ≡ checksumOf (now (s .entry)) ⌝ }
+// A checksum, and the number of bytes that went through it.
+pub struct Summed {
+    pub value: u8,
+    pub count: usize,
+}
+
+// The exclusive or of every byte, each counted as it goes through.
+pub fn checksum(s: &[u8]) -> Summed
+    ensures { λ r. ⌜ r ≡ summedOf (now (s .entry)) ⌝ }
 {
-    let mut a: u8 = 0;
-    let mut i = 0;
-    while i < s.len() {
-        a = a ^ s[i];
-        i += 1;
+    let mut value: u8 = 0;
+    let mut count = 0;
+    while count < s.len() {
+        value = value ^ s[count];
+        count += 1;
     }
-    a
+    Summed { value, count }
 }
 
 // ---- how a slice begins

@@ -1,17 +1,19 @@
 -- Demand 3, clause by clause, of the run that a host makes. Assumes nothing.
-use Prim.Native.Nat.{ℕ, _+_, _^_, _≤_}
+use Prim.Native.Nat.{ℕ, _+_, _-_, _*_, _/_, _^_, _≤_}
 use mathlib.Core.Path.{_≡_, sym, ap, _∙_}
 use mathlib.Core.List.{List}
 use native.Mathlib.Omega.{arith}
 use lib.ListN.{length}
 use Rattle.octets.specs.Numbers.{Bytes}
 use Rattle.division.specs.Division.{divide}
+use Rattle.division.specs.Work.{workOf}
 use Rattle.stream.specs.Reader.{freshState}
 use Rattle.promises.specs.Joined.{joined}
 use Rattle.promises.specs.Run.{Run, asRun, count, NeverRefused, Finished, lengthsAndGaps, readPlain}
 use Rattle.promises.specs.Given.{Given, Uncovered, Valid}
-use Rattle.promises.specs.Calls.{calls}
-use Rattle.promises.proofs.AnyCut.{calls-right}
+use Rattle.promises.specs.Calls.{Made, calls}
+use Rattle.promises.proofs.AnyCut.{calls-right, calls-summed}
+use Rattle.promises.proofs.WorkBound.{work-at-most}
 use Rattle.promises.proofs.PlainSame.{plain-right}
 use Rattle.promises.proofs.GivenIff.{valid-if-given, given-if-valid}
 use Rattle.promises.proofs.AsRun.{never-refused, finished, all-bytes}
@@ -25,8 +27,11 @@ module _ (pieces : List (List ℕ)) (window : List ℕ) (outputs : ℕ → List 
 
   -- k pieces holding m messages, in at most k + m + 1 calls: each piece is fed, its untaken rest is offered again and an empty rest is not, then the
   -- stream is finished until the end is answered; from a fresh state, and each call goes on from the state and the window that the one before left
+  abbrev pub made : Made
+  made = calls (length pieces + count (divide uncut 0) + 1) outputs freshState window pieces
+
   abbrev pub run : Run
-  run = calls (length pieces + count (divide uncut 0) + 1) outputs freshState window pieces
+  run = made .run
 
   -- the messages and the gaps before them are those of 01's division of the uncut stream
   pub any-cut : run ≡ asRun (divide uncut 0)
@@ -55,5 +60,13 @@ module _ (pieces : List (List ℕ)) (window : List ℕ) (outputs : ℕ → List 
   pub comes-to-the-end : Finished run
   comes-to-the-end = rw any-cut (finished (divide uncut 0))
 
-  pub makes-no-more-calls : (n : ℕ) → length pieces + count (divide uncut 0) + 1 ≤ n → calls n outputs freshState window pieces ≡ run
+  pub makes-no-more-calls : (n : ℕ) → length pieces + count (divide uncut 0) + 1 ≤ n → calls n outputs freshState window pieces .run ≡ run
   makes-no-more-calls n l = calls-right outputs outputs-large pieces window window-large stream-at-most n l ∙ sym any-cut
+
+  -- the state that the run leaves has counted the covered bytes of each position that the division tests, once: whatever the cutting
+  pub counts-the-work : made .state .summed ≡ workOf uncut
+  counts-the-work = calls-summed outputs outputs-large pieces window window-large stream-at-most (length pieces + count (divide uncut 0) + 1) comes-to-the-end
+
+  -- which is at most 6,131 for every 3 bytes behind the first
+  pub counts-at-most : made .state .summed ≤ 6131 * ((length uncut - 1) / 3)
+  counts-at-most = rw counts-the-work (work-at-most uncut)

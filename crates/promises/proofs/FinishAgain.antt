@@ -3,29 +3,32 @@ use Prim.Native.Nat.{ℕ, _+_, _-_, _≤_}
 use mathlib.Core.Path.{_≡_, ap}
 use mathlib.Core.Bool.{true}
 use mathlib.Core.List.{List, []}
+use native.Mathlib.Nat.{add-zero}
 use native.Mathlib.Omega.{arith}
 use lib.ListN.{length, take, replicate, length-replicate}
 use lib.Seq.{length-take-le}
 use borrow.Author.Tests.{le-ltb}
+use Rattle.division.specs.Work.{testedIn}
 use Rattle.refusal.specs.declared.Refusal.{Refusal}
 use Rattle.stream.specs.declared.State.{State}
 use Rattle.stream.specs.declared.Answer.the-variants.{Refused, End}
 use Rattle.stream.specs.Scan.{Scan, got, stop, scan}
 use Rattle.stream.specs.Feed.{fed, finish}
-use Rattle.stream.specs.Reader.{room, limit, checked, Call, refusal, laid, finishedCall, refusal, finishCall}
+use Rattle.stream.specs.Reader.{room, limit, mostSummed, checked, Call, refusal, laid, finishedCall, refusal, finishCall}
 use Rattle.stream.specs.Steps.{Allowed}
 use Rattle.stream.proofs.ScanLaws.{ScanFact, scan-fact, StopsEmpty, scan-empty-at}
 use Rattle.stream.proofs.Cases.{finish-cases}
 
 -- the state that the end leaves, in which nothing is held and the gap count is the answered gap
-abbrev atEnd : State → ℕ → State
-atEnd s g = record { held = 0; gap = g; total = s .total; ended = 1 }
+abbrev atEnd : State → ℕ → ℕ → State
+atEnd s g u = record { held = 0; gap = g; total = s .total; ended = 1; summed = u }
 
-abbrev endCall : State → List ℕ → List ℕ → ℕ → Call
-endCall s w o g = record { answer = End g; state = atEnd s g; window = laid [] w; output = o }
+abbrev endCall : State → List ℕ → List ℕ → ℕ → ℕ → Call
+endCall s w o g u = record { answer = End g; state = atEnd s g u; window = laid [] w; output = o }
 
 record Ended (c : Call) (s : State) (w o : List ℕ) (g : ℕ) : Type 0 where
-  is : c ≡ endCall s w o g
+  summed : ℕ
+  is : c ≡ endCall s w o g summed
   sums : g ≤ s .total
   below : s .total ≤ limit
   window : room ≤ length w
@@ -45,7 +48,7 @@ ended s w o g =
     stopped (stop g′ r) f m a e =
         let z : g′ ≡ g = cc in
         let k : g′ ≤ s .gap + s .held = omega (arith, f .0 .counted, f .0 .within, length-take-le (s .held) w (omega (arith, a .held, a .window))) in
-        record { is = rw (m, z); sums = omega (arith, a .sums); below = omega (arith, a .fits); window = a .window }
+        record { summed = s .summed + testedIn (g - s .gap) (take (s .held) w); is = rw (m, z); sums = omega (arith, a .sums); below = omega (arith, a .fits); window = a .window }
 
 laid-none : (w : List ℕ) → laid [] (laid [] w) ≡ laid [] w
 unfolding laid
@@ -58,15 +61,17 @@ unfolding laid
 length-none w = omega (arith, length-replicate {A = ℕ} (length w - 0) 0)
 
 -- a call on such a state and window
-at-end : (s : State) (z o : List ℕ) (g : ℕ) → g ≤ s .total → s .total ≤ limit → room ≤ length z → room ≤ length o → laid [] z ≡ z
-    → finishCall (atEnd s g) z o ≡ record { answer = End g; state = atEnd s g; window = z; output = o }
-unfolding finishCall finish fed scan checked
-at-end s z o g sums below window output q =
+at-end : (s : State) (z o : List ℕ) (g u : ℕ) → g ≤ s .total → s .total ≤ limit → u ≤ mostSummed → room ≤ length z → room ≤ length o → laid [] z ≡ z
+    → finishCall (atEnd s g u) z o ≡ record { answer = End g; state = atEnd s g u; window = z; output = o }
+unfolding finishCall finish fed scan checked testedIn
+at-end s z o g u sums below few window output q =
     let zero : g + 0 ≤ s .total = omega arith in
-    rw (le-ltb (length z) room window, le-ltb (length o) room output, le-ltb limit (s .total) below, le-ltb (s .total) (g + 0) zero, q)
+    let none : g - g ≡ 0 = omega arith in
+    rw (le-ltb (length z) room window, le-ltb (length o) room output, le-ltb limit (s .total) below, le-ltb mostSummed u few, le-ltb (s .total) (g + 0) zero, none, add-zero u, q)
 
-pub finish-again : (s : State) (w o o′ : List ℕ) (g : ℕ) → finishCall s w o .answer ≡ End g → room ≤ length o′
+-- where the state's count of bytes summed has not passed 2^60, as it has in no run
+pub finish-again : (s : State) (w o o′ : List ℕ) (g : ℕ) → finishCall s w o .answer ≡ End g → room ≤ length o′ → finishCall s w o .state .summed ≤ mostSummed
     → finishCall (finishCall s w o .state) (finishCall s w o .window) o′ ≡ record { answer = End g; state = finishCall s w o .state; window = finishCall s w o .window; output = o′ }
-finish-again s w o o′ g e large =
+finish-again s w o o′ g e large few =
     let a = ended s w o g e in
-    rw (a .is) (at-end s (laid [] w) o′ g (a .sums) (a .below) (omega (arith, a .window, length-none w)) large (laid-none w))
+    rw (a .is) (at-end s (laid [] w) o′ g (a .summed) (a .sums) (a .below) (rw (a .is) at few) (omega (arith, a .window, length-none w)) large (laid-none w))

@@ -15,11 +15,11 @@ use Rattle.stream.specs.Scan.{settle, seen, Scan, got, stop, scanned, scan}
 use Rattle.stream.specs.Feed.{Fed, given, more, fed, feed, finish}
 
 -- ---- what is settled before the end is so at the end, with more bytes
-stands-gap : (xs ys : List ℕ) → look xs ≡ gap → stands (xs ++ ys) ≡ 0
+pub stands-gap : (xs ys : List ℕ) → look xs ≡ gap → stands (xs ++ ys) ≡ 0
 unfolding stands lengthOf
 stands-gap xs ys e = rw (look-append xs ys, e)
 
-stands-message : (xs ys : List ℕ) (n : ℕ) → look xs ≡ message n → stands (xs ++ ys) ≡ n
+pub stands-message : (xs ys : List ℕ) (n : ℕ) → look xs ≡ message n → stands (xs ++ ys) ≡ n
 unfolding stands lengthOf
 stands-message xs ys n e = rw (look-append xs ys, e)
 

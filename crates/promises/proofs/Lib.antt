@@ -27,6 +27,11 @@ pub mod Room
 pub mod PlainSame
 pub mod Checked
 pub mod Left
+pub mod SyncApart
+pub mod WorkSteps
+pub mod WorkBound
+pub mod WorkReached
+pub mod WorkLeft
 pub mod RunRight
 pub mod AnyCut
 pub mod InPlace

@@ -211,10 +211,10 @@ module _ (s : State) (w o : List ℕ) where
   small-buffers b k = ⊎-elim (λ l. omega (arith, k .0)) (λ l. omega (arith, k .1)) b
 
   bad-state : Bad s → Sound s → ⊥
-  bad-state b k = ⊎-elim (λ l. omega (arith, k .0)) (λ c. ⊎-elim (λ l. omega (arith, k .1)) (λ l. omega (arith, k .2)) c) b
+  bad-state b k = ⊎-elim (λ l. omega (arith, k .0)) (λ c. ⊎-elim (λ l. omega (arith, k .1)) (λ d. ⊎-elim (λ l. omega (arith, k .3)) (λ l. omega (arith, k .2)) d) c) b
 
   sound-state : (p : ℕ) → Allowed s (length w) (length o) p → Buffers w o × Sound s
-  sound-state p a = ((a .window, a .output), (a .held, omega (arith, a .fits), a .sums))
+  sound-state p a = ((a .window, a .output), (a .held, omega (arith, a .fits), a .sums, a .counted))
 
   pub finish-table : FinishTable s w o (answerNumber (finishCall s w o .answer))
   finish-table =

@@ -115,7 +115,7 @@ Fed κs s p = (s, (reference p, (reference lent, (reference lent, tt))))
 
 -- one that finds the first message and then, once bytes are taken, only says that it needs more: fed A again, it owes A
 abbrev later : State
-later = record { held = 0; gap = 0; total = 16; ended = 0 }
+later = record { held = 0; gap = 0; total = 16; ended = 0; summed = 0 }
 
 later-owes : feedCall later A lent lent .answer ≡ Message 16 0 16
 unfolding feedCall feedChecked feedCheckedBy checked feed fed scan scanned seen settle look lookBy judged claim claimBy counted fit agrees checksumFrom

@@ -13,25 +13,33 @@ unfoldable pub offer : List ℕ → List (List ℕ) → List (List ℕ)
 offer [] ps = ps
 offer (b ∷ p) ps = (b ∷ p) ∷ ps
 
+-- what calls come to, and the state that the last of them leaves
+pub record Made : Type 0 where
+  pub run : Run
+  pub state : State
+
+abbrev pub behind : ℕ → List ℕ → Made → Made
+behind g m later = record { run = gave g m (later .run); state = later .state }
+
 -- a host goes on from the state and the window that the call before left, with the pieces to come
 abbrev pub Host : Type 0
-Host = State → List ℕ → List (List ℕ) → Run
+Host = State → List ℕ → List (List ℕ) → Made
 
-unfoldable pub afterFeed : Host → List ℕ → List (List ℕ) → Answer → Call → Run
-afterFeed go p ps (Refused r) c = refused r
+unfoldable pub afterFeed : Host → List ℕ → List (List ℕ) → Answer → Call → Made
+afterFeed go p ps (Refused r) c = record { run = refused r; state = c .state }
 afterFeed go p ps NeedsMore c = go (c .state) (c .window) ps
-afterFeed go p ps (Message n g t) c = gave g (take n (c .output)) (go (c .state) (c .window) (offer (drop t p) ps))
-afterFeed go p ps (End g) c = unfinished
+afterFeed go p ps (Message n g t) c = behind g (take n (c .output)) (go (c .state) (c .window) (offer (drop t p) ps))
+afterFeed go p ps (End g) c = record { run = unfinished; state = c .state }
 
-unfoldable pub afterFinish : Host → Answer → Call → Run
-afterFinish go (Refused r) c = refused r
-afterFinish go NeedsMore c = unfinished
-afterFinish go (Message n g t) c = gave g (take n (c .output)) (go (c .state) (c .window) [])
-afterFinish go (End g) c = ended g
+unfoldable pub afterFinish : Host → Answer → Call → Made
+afterFinish go (Refused r) c = record { run = refused r; state = c .state }
+afterFinish go NeedsMore c = record { run = unfinished; state = c .state }
+afterFinish go (Message n g t) c = behind g (take n (c .output)) (go (c .state) (c .window) [])
+afterFinish go (End g) c = record { run = ended g; state = c .state }
 
 -- at most so many calls: the pieces in order, the rest of each again, then finishing until the end is answered. Each call is lent an output of its own:
 -- somebody else may touch it between calls
 unfoldable pub calls : ℕ → (ℕ → List ℕ) → Host
-calls zero outputs s w ps = unfinished
+calls zero outputs s w ps = record { run = unfinished; state = s }
 calls (suc n) outputs s w [] = let c = finishCall s w (outputs n) in afterFinish (calls n outputs) (c .answer) c
 calls (suc n) outputs s w (p ∷ ps) = let c = feedCall s p w (outputs n) in afterFeed (calls n outputs) p ps (c .answer) c

@@ -1,6 +1,8 @@
 pub mod Joined
 pub mod Fields
 pub mod Again
+pub mod Sync
+pub mod Crowded
 pub mod Run
 pub mod Given
 pub mod Reason

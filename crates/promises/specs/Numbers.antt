@@ -108,12 +108,12 @@ NextTable s start n = ((n ≡ 12) × (length s < start)) ⊎ ((n ≡ 0) × (star
 abbrev pub ReasonTable : List ℕ → ℕ → ℕ → Type 0
 ReasonTable s p n = ((n ≡ 12) × (length s ≤ p)) ⊎ ((n ≡ 0) × (p < length s))
 
--- 8 window or output has fewer than 6,136 bytes; 9 a held count above 6,136, a total above 2^48, or gap + held above total
+-- 8 window or output has fewer than 6,136 bytes; 9 a held count above 6,136, a total above 2^48, gap + held above total, or more than 2^60 bytes summed
 abbrev pub Buffers : List ℕ → List ℕ → Type 0
 Buffers w o = (6136 ≤ length w) × (6136 ≤ length o)
 
 abbrev pub Sound : State → Type 0
-Sound s = (s .held ≤ 6136) × (s .total ≤ 2 ^ 48) × (s .gap + s .held ≤ s .total)
+Sound s = (s .held ≤ 6136) × (s .total ≤ 2 ^ 48) × (s .gap + s .held ≤ s .total) × (s .summed ≤ 2 ^ 60)
 
 -- then what follows
 abbrev pub AfterState : (ℕ → Type 0) → State → List ℕ → List ℕ → ℕ → Type 0

@@ -36,7 +36,8 @@ fn sum(bytes: &[u8], n: usize) -> Reason
     ensures { λ r. ⌜ r ≡ summed n (residueOf n (now (bytes .entry))) ⌝ }
 {
     let last = n - 1;
-    let residue = octets::checksum(&bytes[4..last]) ^ bytes[last];
+    let sum = octets::checksum(&bytes[4..last]);
+    let residue = sum.value ^ bytes[last];
     if residue == 0 {
         return Reason::Given(n);
     }

@@ -159,7 +159,9 @@ fn more(progress: Progress, buffer: &mut [u8], text: &[u8]) -> Progress {
 // The next message of the buffer; or what is not settled yet, and the next block behind it; or the end.
 fn turn(progress: Progress, buffer: &mut [u8], text: &mut [u8]) -> Progress {
     let rest = part(buffer, progress.from, progress.end);
-    match division::walk(progress.over, rest) {
+    let passage = division::walk(progress.over, rest);
+    let walked = passage.walked;
+    match walked {
         Walked::Message(at, length, _) => {
             let message = part(rest, at, wrapping_add_usize(at, length));
             given(passed(progress, at), message, text)

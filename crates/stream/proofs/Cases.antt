@@ -13,7 +13,7 @@ use Rattle.stream.specs.declared.State.{State}
 use Rattle.stream.specs.declared.Gate.{Gate}
 use Rattle.stream.specs.declared.Gate.the-variants.{Refused as Shut, Open}
 use Rattle.stream.specs.Feed.{feed, finish}
-use Rattle.stream.specs.Reader.{room, limit, bad, checked, feedCheckedBy, feedChecked, Call, refusal, fedCall, feedBy, feedCall, finishedCall, finishBy, finishCall}
+use Rattle.stream.specs.Reader.{room, limit, mostSummed, bad, checked, feedCheckedBy, feedChecked, Call, refusal, fedCall, feedBy, feedCall, finishedCall, finishBy, finishCall}
 use Rattle.stream.specs.Steps.{Allowed}
 use Rattle.stream.proofs.CallSteps.{bad-false}
 
@@ -22,29 +22,31 @@ abbrev pub Small : ℕ → ℕ → Type 0
 Small w o = (w < room) ⊎ (o < room)
 
 abbrev pub Bad : State → Type 0
-Bad s = (room < s .held) ⊎ ((limit < s .total) ⊎ (s .total < s .gap + s .held))
+Bad s = (room < s .held) ⊎ ((limit < s .total) ⊎ ((mostSummed < s .summed) ⊎ (s .total < s .gap + s .held)))
 
-bad-true : (s : State) → bad (s .held) (s .gap) (s .total) ≡ true → Bad s
-bad-true s = go (ltb room (s .held)) refl (ltb limit (s .total)) refl
+bad-true : (s : State) → bad (s .held) (s .gap) (s .total) (s .summed) ≡ true → Bad s
+bad-true s = go (ltb room (s .held)) refl (ltb limit (s .total)) refl (ltb mostSummed (s .summed)) refl
   where
-    go : (a : Bool) → ltb room (s .held) ≡ a → (b : Bool) → ltb limit (s .total) ≡ b → cond a true (cond b true (ltb (s .total) (s .gap + s .held))) ≡ true → Bad s
-    go true x b y z = inl (ltb-true room (s .held) x)
-    go false x true y z = inr (inl (ltb-true limit (s .total) y))
-    go false x false y z = inr (inr (ltb-true (s .total) (s .gap + s .held) z))
+    go : (a : Bool) → ltb room (s .held) ≡ a → (b : Bool) → ltb limit (s .total) ≡ b → (c : Bool) → ltb mostSummed (s .summed) ≡ c
+        → cond a true (cond b true (cond c true (ltb (s .total) (s .gap + s .held)))) ≡ true → Bad s
+    go true x b y c w z = inl (ltb-true room (s .held) x)
+    go false x true y c w z = inr (inl (ltb-true limit (s .total) y))
+    go false x false y true w z = inr (inr (inl (ltb-true mostSummed (s .summed) w)))
+    go false x false y false w z = inr (inr (inr (ltb-true (s .total) (s .gap + s .held) z)))
 
 module _ (s : State) (w o : ℕ) (P : Gate → Type 0) (small : Small w o → P (Shut SmallBuffer)) (wrong : room ≤ w → room ≤ o → Bad s → P (Shut BadState)) (opens : Allowed s w o 0 → P Open) where
   checked-cases : P (checked s w o)
   unfolding checked
-  checked-cases = go (ltb w room) refl (ltb o room) refl (bad (s .held) (s .gap) (s .total)) refl
+  checked-cases = go (ltb w room) refl (ltb o room) refl (bad (s .held) (s .gap) (s .total) (s .summed)) refl
     where
-      go : (a : Bool) → ltb w room ≡ a → (b : Bool) → ltb o room ≡ b → (c : Bool) → bad (s .held) (s .gap) (s .total) ≡ c
+      go : (a : Bool) → ltb w room ≡ a → (b : Bool) → ltb o room ≡ b → (c : Bool) → bad (s .held) (s .gap) (s .total) (s .summed) ≡ c
           → P (cond a (Shut SmallBuffer) (cond b (Shut SmallBuffer) (cond c (Shut BadState) Open)))
       go true h b i c j = small (inl (ltb-true w room h))
       go false h true i c j = small (inr (ltb-true o room i))
       go false h false i true j = wrong (ltb-false w room h) (ltb-false o room i) (bad-true s j)
       go false h false i false j =
-          let f = bad-false (s .held) (s .gap) (s .total) j in
-          opens (record { window = ltb-false w room h; output = ltb-false o room i; held = f .0; sums = f .2; fits = omega arith })
+          let f = bad-false (s .held) (s .gap) (s .total) (s .summed) j in
+          opens (record { window = ltb-false w room h; output = ltb-false o room i; held = f .0; sums = f .2; fits = omega arith; counted = f .3 })
 
 module _ (s : State) (w o : List ℕ) (P : Call → Type 0) (small : Small (length w) (length o) → P (refusal SmallBuffer s w o)) (wrong : room ≤ length w → room ≤ length o → Bad s → P (refusal BadState s w o)) where
   pub finish-cases : (Allowed s (length w) (length o) 0 → P (finishedCall s w o (finish (take (s .held) w) (s .gap)))) → P (finishCall s w o)
@@ -63,4 +65,4 @@ module _ (s : State) (w o : List ℕ) (P : Call → Type 0) (small : Small (leng
           test false h c i = ended a (eqb-false (s .ended) 0 h)
           test true h true i = much a (eqb-true (s .ended) 0 h) (ltb-true limit (s .total + length p) i)
           test true h false i =
-              goes (record { window = a .window; output = a .output; held = a .held; sums = a .sums; fits = ltb-false limit (s .total + length p) i }) (eqb-true (s .ended) 0 h)
+              goes (record { window = a .window; output = a .output; held = a .held; sums = a .sums; fits = ltb-false limit (s .total + length p) i; counted = a .counted }) (eqb-true (s .ended) 0 h)

@@ -4,6 +4,7 @@ pub mod WalkScan
 pub mod Reach
 pub mod WindowSteps
 pub mod TurnSteps
+pub mod TallySteps
 pub mod CallSteps
 pub mod Cases
 pub mod Determined

@@ -147,7 +147,7 @@ fed-none : (p : List ℕ) (g : ℕ) → fed p (stop g []) ≡ feed [] g p
 unfolding feed scan
 fed-none p g = refl
 
-none : (p : List ℕ) → length p ≡ 0 → p ≡ []
+pub none : (p : List ℕ) → length p ≡ 0 → p ≡ []
 none [] e = refl
 none (x ∷ p) e = absurd (omega arith)
 
@@ -170,7 +170,7 @@ module _ (e : Bool) (h₀ g₀ : ℕ) (w₀ o₀ p : List ℕ) (h g t : ℕ) (w 
   filling-held = omega (arith, f .same, f .room)
 
   module _ (r : Walked) (z : r ≡ walkOf e (take h w) 0 0) where
-    length-held : length (take h w) ≡ h
+    pub length-held : length (take h w) ≡ h
     length-held = length-take-le h w filling-held
 
     abbrev Come : Fed
@@ -209,7 +209,7 @@ module _ (e : Bool) (h₀ g₀ : ℕ) (w₀ o₀ p : List ℕ) (h g t : ℕ) (w 
       pub turn-place-fits : (t ≤ length p) × (6136 ≤ length w) × (6136 ≤ length o) × (g + k + length p < 2 ^ 63)
       turn-place-fits = (f .within, omega (arith, f .same), omega (arith, f .same-output), omega (arith, turn-within, f .sums, f .within))
 
-      length-left : length (drop k (take h w)) ≡ h - k
+      pub length-left : length (drop k (take h w)) ≡ h - k
       length-left = omega (arith, length-drop k (take h w), length-held)
 
       pub turn-place : h - k ≡ 0 → (x : Outcome) (w′ o′ : List ℕ) → CameTo (feed [] (g + k) (drop t p)) p w o x w′ o′ → CameTo Come p w₀ o₀ x w′ o′
@@ -228,7 +228,7 @@ module _ (e : Bool) (h₀ g₀ : ℕ) (w₀ o₀ p : List ℕ) (h g t : ℕ) (w 
         turn-pull-fits = (omega (arith, turn-within, filling-held), omega (arith, f .same), wants, f .within)
 
         module _ (c : ℕ) (w′ : List ℕ) (v : Pulled (h - k) (take (h - k) (drop k w)) w (drop t p) c w′) where
-          on : Pulled (h - k) (drop k (take h w)) w (drop t p) c w′
+          pub on : Pulled (h - k) (drop k (take h w)) w (drop t p) c w′
           on = rw (middle k h w turn-within) v
 
           pub turn-more : c ≡ 0 → CameTo Come p w₀ o₀ (Nothing (g + k) t (h - k)) w′ o

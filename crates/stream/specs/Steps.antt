@@ -1,5 +1,5 @@
 -- What the private steps of the reader say of each other: no public contract cites these. Definitions only.
-use Prim.Native.Nat.{ℕ, _+_, _≤_}
+use Prim.Native.Nat.{ℕ, suc, _+_, _-_, _≤_}
 use mathlib.Core.Path.{_≡_}
 use mathlib.Core.Bool.{Bool, cond}
 use mathlib.Core.List.{List, _++_}
@@ -7,6 +7,7 @@ use lib.ListN.{length, take, drop}
 use mir.Val.{boolByte}
 use Rattle.octets.specs.Parts.{over}
 use Rattle.front.specs.Look.{need}
+use Rattle.division.specs.Work.{testedIn}
 use Rattle.stream.specs.declared.State.{State}
 use Rattle.stream.specs.declared.Answer.{Answer}
 use Rattle.stream.specs.declared.Answer.the-variants.{NeedsMore, Message as Answered, End}
@@ -14,7 +15,7 @@ use Rattle.stream.specs.declared.Reply.{Reply}
 use Rattle.stream.specs.declared.Outcome.{Outcome}
 use Rattle.stream.specs.declared.Outcome.the-variants.{Message, Nothing}
 use Rattle.stream.specs.Feed.{Fed, given, more}
-use Rattle.stream.specs.Reader.{room, limit}
+use Rattle.stream.specs.Reader.{room, limit, mostSummed}
 
 -- what the checks let through
 pub record Allowed (s : State) (w o p : ℕ) : Type 0 where
@@ -23,6 +24,7 @@ pub record Allowed (s : State) (w o p : ℕ) : Type 0 where
   pub held : s .held ≤ room
   pub sums : s .gap + s .held ≤ s .total
   pub fits : s .total + p ≤ limit
+  pub counted : s .summed ≤ mostSummed
 
 -- n bytes xs at an unsettled position go to the front of the window w, and c bytes of the piece p behind them
 pub record Pulled (n : ℕ) (xs w p : List ℕ) (c : ℕ) (w′ : List ℕ) : Type 0 where
@@ -46,10 +48,23 @@ abbrev pub CameTo : Fed → List ℕ → List ℕ → List ℕ → Outcome → L
 CameTo d p w o (Message n g t h) w′ o′ = Given d p w o n g t h w′ o′
 CameTo d p w o (Nothing g t h) w′ o′ = (d ≡ more g (take h w′)) × (t ≡ length p) × (h ≤ length w) × (length w′ ≡ length w) × (o′ ≡ o)
 
+-- ---- and the bytes that it has run through the checksum: with g₀ gap bytes before, s₀ bytes summed and the bytes xs to come, s bytes after it
+abbrev pub gapIn : Outcome → ℕ
+gapIn (Message n g t h) = g
+gapIn (Nothing g t h) = g
+
+abbrev pub settledIn : ℕ → Outcome → ℕ
+settledIn g₀ (Message n g t h) = suc (g - g₀)
+settledIn g₀ (Nothing g t h) = g - g₀
+
+pub record Tested (g₀ s₀ : ℕ) (xs : List ℕ) (x : Outcome) (s : ℕ) : Type 0 where
+  pub from-on : g₀ ≤ gapIn x
+  pub sum : s ≡ s₀ + testedIn (settledIn g₀ x) xs
+
 -- ---- the reply to it, of a finish or of a feed
 abbrev pub noMessage : Bool → ℕ → Answer
 noMessage ended g = cond ended (End g) NeedsMore
 
-abbrev pub replyTo : ℕ → Bool → Outcome → Reply
-replyTo total ended (Message n g t h) = record { answer = Answered n g t; state = record { held = h; gap = 0; total = total + t; ended = boolByte ended } }
-replyTo total ended (Nothing g t h) = record { answer = noMessage ended g; state = record { held = h; gap = g; total = total + t; ended = boolByte ended } }
+abbrev pub replyTo : ℕ → Bool → Outcome → ℕ → Reply
+replyTo total ended (Message n g t h) summed = record { answer = Answered n g t; state = record { held = h; gap = 0; total = total + t; ended = boolByte ended; summed = summed } }
+replyTo total ended (Nothing g t h) summed = record { answer = noMessage ended g; state = record { held = h; gap = g; total = total + t; ended = boolByte ended; summed = summed } }

@@ -5,7 +5,8 @@ use front::Claim;
 use refusal::Refusal;
 ghost use mathlib.Core.Path.{_≡_};
 ghost use mathlib.Core.List.{[], _++_};
-ghost use Prim.Native.Nat.{_+_, _-_, _^_, _<_, _≤_};
+ghost use mathlib.Core.Bool.{true};
+ghost use Prim.Native.Nat.{_+_, _-_, _*_, _^_, _<_, _≤_};
 ghost use lib.ListN.{length, take, drop, replicate};
 ghost use lib.Seq.{paste};
 ghost use mir.Val.{boolByte};
@@ -14,15 +15,17 @@ ghost use Rattle.front.specs.Look.{need};
 ghost use Rattle.stream.specs.Scan.{scan};
 ghost use Rattle.stream.specs.Feed.{fed, feed};
 ghost use Rattle.stream.specs.Reader.{freshState, bad, feedChecked, feedCall, finishCall, Leaves};
-ghost use Rattle.stream.specs.Steps.{Pulled, CameTo, noMessage, replyTo};
+ghost use Rattle.stream.specs.Steps.{Pulled, CameTo, Tested, noMessage, replyTo};
 
-// The bytes held in the window, the gap bytes before them, all bytes taken, and whether the end was announced (0, or anything else).
+// The bytes held in the window, the gap bytes before them, all bytes taken, whether the end was announced (0, or anything else), and all bytes
+// run through the checksum.
 #[repr(C)]
 pub struct State {
     pub held: u64,
     pub gap: u64,
     pub total: u64,
     pub ended: u64,
+    pub summed: u64,
 }
 
 // A refusal; all of the piece is taken and more is needed; a message with its length, the gap before it and the bytes taken;
@@ -52,16 +55,25 @@ enum Outcome {
     Nothing(usize, usize, usize),
 }
 
+// With all bytes run through the checksum up to there.
+struct Counted {
+    outcome: Outcome,
+    summed: usize,
+}
+
 // ---- what is refused
 
 // A state that no call leaves.
-fn bad_state(held: u64, gap: u64, total: u64) -> bool
-    ensures { λ r. ⌜ r ≡ bad held gap total ⌝ }
+fn bad_state(held: u64, gap: u64, total: u64, summed: u64) -> bool
+    ensures { λ r. ⌜ r ≡ bad held gap total summed ⌝ }
 {
     if 6136 < held {
         return true;
     }
     if 281474976710656 < total {
+        return true;
+    }
+    if 1152921504606846976 < summed {
         return true;
     }
     if total < gap {
@@ -72,7 +84,7 @@ fn bad_state(held: u64, gap: u64, total: u64) -> bool
 
 // 8, 9, 10 and 11 in rising order. A finish is checked as a feed of no bytes for which no end was announced.
 fn checks(state: State, announced: u64, window: usize, output: usize, piece: usize) -> Gate
-    ensures { λ r. ⌜ r ≡ feedChecked (record { held = state .held; gap = state .gap; total = state .total; ended = announced }) window output piece ⌝ }
+    ensures { λ r. ⌜ r ≡ feedChecked (record { held = state .held; gap = state .gap; total = state .total; ended = announced; summed = state .summed }) window output piece ⌝ }
 {
     if window < 6136 {
         return Gate::Refused(Refusal::SmallBuffer);
@@ -80,7 +92,7 @@ fn checks(state: State, announced: u64, window: usize, output: usize, piece: usi
     if output < 6136 {
         return Gate::Refused(Refusal::SmallBuffer);
     }
-    if bad_state(state.held, state.gap, state.total) {
+    if bad_state(state.held, state.gap, state.total, state.summed) {
         return Gate::Refused(Refusal::BadState);
     }
     if announced != 0 {
@@ -153,21 +165,38 @@ fn pull(from: usize, n: usize, taken: usize, piece: &[u8], window: &mut [u8]) ->
 }
 
 // The rest of a feed once `taken` bytes of the piece are taken, nothing is held and `gap` bytes stand before: the piece is divided where it stands.
-fn in_place(gap: usize, taken: usize, piece: &[u8], window: &mut [u8], output: &mut [u8]) -> Outcome
-    requires { ⌜ (taken ≤ length (now piece)) × (6136 ≤ length (now window)) × (6136 ≤ length (now output)) × (gap + length (now piece) < 2 ^ 63) ⌝ }
-    ensures { λ r. ⌜ CameTo (feed [] gap (drop taken (now (piece .entry)))) (now (piece .entry)) (now (window .entry)) (now (output .entry)) r (now (window .exit)) (now (output .exit)) ⌝ }
+fn in_place(
+    gap: usize,
+    taken: usize,
+    summed: usize,
+    piece: &[u8],
+    window: &mut [u8],
+    output: &mut [u8],
+) -> Counted
+    requires { ⌜ ((taken ≤ length (now piece)) × (6136 ≤ length (now window)) × (6136 ≤ length (now output)) × (gap + length (now piece) < 2 ^ 63)) × (summed + 6131 * (length (now piece) - taken) < 2 ^ 63) ⌝ }
+    ensures { λ r. ⌜ CameTo (feed [] gap (drop taken (now (piece .entry)))) (now (piece .entry)) (now (window .entry)) (now (output .entry)) (r .outcome) (now (window .exit)) (now (output .exit))
+        × Tested gap summed (drop taken (now (piece .entry))) (r .outcome) (r .summed) ⌝ }
 {
     let rest = &piece[taken..];
-    match division::walk(false, rest) {
+    let passage = division::walk(false, rest);
+    let walked = passage.walked;
+    let summed = summed + passage.summed;
+    match walked {
         Walked::Message(at, length, reach) => {
             let end = at + length;
             copy_part(rest, at, end, output);
             copy_part(rest, end, reach, window);
-            Outcome::Message(length, gap + at, taken + reach, reach - end)
+            Counted {
+                outcome: Outcome::Message(length, gap + at, taken + reach, reach - end),
+                summed,
+            }
         }
         Walked::Unsettled(at) => {
             copy_part(rest, at, rest.len(), window);
-            Outcome::Nothing(gap + at, piece.len(), rest.len() - at)
+            Counted {
+                outcome: Outcome::Nothing(gap + at, piece.len(), rest.len() - at),
+                summed,
+            }
         }
     }
 }
@@ -177,32 +206,43 @@ fn divide(
     ended: bool,
     mut held: usize,
     mut gap: usize,
+    mut summed: usize,
     piece: &[u8],
     window: &mut [u8],
     output: &mut [u8],
-) -> Outcome
-    requires { ⌜ (held ≤ 6136) × (6136 ≤ length (now window)) × (6136 ≤ length (now output)) × (gap + held + length (now piece) < 2 ^ 62) ⌝ }
-    ensures { λ r. ⌜ CameTo (fed (now (piece .entry)) (scan ended (take held (now (window .entry))) gap)) (now (piece .entry)) (now (window .entry)) (now (output .entry)) r (now (window .exit)) (now (output .exit)) ⌝ }
+) -> Counted
+    requires { ⌜ ((held ≤ 6136) × (6136 ≤ length (now window)) × (6136 ≤ length (now output)) × (gap + held + length (now piece) < 2 ^ 62)) × (summed + 6131 * (held + length (now piece)) < 2 ^ 63) × (ended ≡ true → length (now piece) ≡ 0) ⌝ }
+    ensures { λ r. ⌜ CameTo (fed (now (piece .entry)) (scan ended (take held (now (window .entry))) gap)) (now (piece .entry)) (now (window .entry)) (now (output .entry)) (r .outcome) (now (window .exit)) (now (output .exit))
+        × Tested gap summed (take held (now (window .entry)) ++ now (piece .entry)) (r .outcome) (r .summed) ⌝ }
 {
     let mut taken = 0;
     loop {
-        match division::walk(ended, &window[..held]) {
+        let passage = division::walk(ended, &window[..held]);
+        let walked = passage.walked;
+        summed = summed + passage.summed;
+        match walked {
             Walked::Message(at, length, _) => {
                 let end = at + length;
                 let left = held - end;
                 copy_part(window, at, end, output);
                 shift(window, end, left);
-                return Outcome::Message(length, gap + at, taken, left);
+                return Counted {
+                    outcome: Outcome::Message(length, gap + at, taken, left),
+                    summed,
+                };
             }
             Walked::Unsettled(at) => {
                 held = held - at;
                 gap = gap + at;
                 if held == 0 {
-                    return in_place(gap, taken, piece, window, output);
+                    return in_place(gap, taken, summed, piece, window, output);
                 }
                 let more = pull(at, held, taken, piece, window);
                 if more == 0 {
-                    return Outcome::Nothing(gap, taken, held);
+                    return Counted {
+                        outcome: Outcome::Nothing(gap, taken, held),
+                        summed,
+                    };
                 }
                 held = held + more;
                 taken = taken + more;
@@ -213,14 +253,15 @@ fn divide(
 
 // ---- replies
 
-fn state_of(held: usize, gap: usize, total: usize, ended: bool) -> State
-    ensures { λ r. ⌜ r ≡ record { held = held; gap = gap; total = total; ended = boolByte ended } ⌝ }
+fn state_of(held: usize, gap: usize, total: usize, ended: bool, summed: usize) -> State
+    ensures { λ r. ⌜ r ≡ record { held = held; gap = gap; total = total; ended = boolByte ended; summed = summed } ⌝ }
 {
     State {
         held: held as u64,
         gap: gap as u64,
         total: total as u64,
         ended: ended as u64,
+        summed: summed as u64,
     }
 }
 
@@ -235,9 +276,9 @@ fn no_message(ended: bool, gap: usize) -> Answer
 }
 
 // After a message no gap stands before the bytes held.
-fn reply_of(total: usize, ended: bool, outcome: Outcome) -> Reply
-    requires { ⌜ replyTo total ended outcome .state .total < 2 ^ 64 ⌝ }
-    ensures { λ r. ⌜ r ≡ replyTo total ended outcome ⌝ }
+fn reply_of(total: usize, ended: bool, outcome: Outcome, summed: usize) -> Reply
+    requires { ⌜ replyTo total ended outcome summed .state .total < 2 ^ 64 ⌝ }
+    ensures { λ r. ⌜ r ≡ replyTo total ended outcome summed ⌝ }
 {
     match outcome {
         Outcome::Message(length, gap, taken, held) => Reply {
@@ -246,21 +287,21 @@ fn reply_of(total: usize, ended: bool, outcome: Outcome) -> Reply
                 gap: gap as u64,
                 taken: taken as u64,
             },
-            state: state_of(held, 0, total + taken, ended),
+            state: state_of(held, 0, total + taken, ended, summed),
         },
         Outcome::Nothing(gap, taken, held) => Reply {
             answer: no_message(ended, gap),
-            state: state_of(held, gap, total + taken, ended),
+            state: state_of(held, gap, total + taken, ended, summed),
         },
     }
 }
 
 // The reply, and zeros behind the bytes held.
-fn conclude(total: usize, ended: bool, outcome: Outcome, window: &mut [u8]) -> Reply
-    requires { ⌜ (replyTo total ended outcome .state .total < 2 ^ 64) × (replyTo total ended outcome .state .held ≤ length (now window)) ⌝ }
-    ensures { λ r. ⌜ (r ≡ replyTo total ended outcome) × (now (window .exit) ≡ take (r .state .held) (now (window .entry)) ++ replicate (length (now (window .entry)) - r .state .held) 0) ⌝ }
+fn conclude(total: usize, ended: bool, outcome: Outcome, summed: usize, window: &mut [u8]) -> Reply
+    requires { ⌜ (replyTo total ended outcome summed .state .total < 2 ^ 64) × (replyTo total ended outcome summed .state .held ≤ length (now window)) ⌝ }
+    ensures { λ r. ⌜ (r ≡ replyTo total ended outcome summed) × (now (window .exit) ≡ take (r .state .held) (now (window .entry)) ++ replicate (length (now (window .entry)) - r .state .held) 0) ⌝ }
 {
-    let reply = reply_of(total, ended, outcome);
+    let reply = reply_of(total, ended, outcome, summed);
     let left = reply.state.held as usize;
     octets::clear(&mut window[left..]);
     reply
@@ -286,8 +327,11 @@ pub fn feed(state: State, piece: &[u8], window: &mut [u8], output: &mut [u8]) ->
         Gate::Open => {
             let held = state.held as usize;
             let gap = state.gap as usize;
-            let outcome = divide(false, held, gap, piece, window, output);
-            conclude(state.total as usize, false, outcome, window)
+            let summed = state.summed as usize;
+            let counted = divide(false, held, gap, summed, piece, window, output);
+            let outcome = counted.outcome;
+            let summed = counted.summed;
+            conclude(state.total as usize, false, outcome, summed, window)
         }
     }
 }
@@ -301,8 +345,11 @@ pub fn finish(state: State, window: &mut [u8], output: &mut [u8]) -> Reply
         Gate::Open => {
             let held = state.held as usize;
             let gap = state.gap as usize;
-            let outcome = divide(true, held, gap, b"", window, output);
-            conclude(state.total as usize, true, outcome, window)
+            let summed = state.summed as usize;
+            let counted = divide(true, held, gap, summed, b"", window, output);
+            let outcome = counted.outcome;
+            let summed = counted.summed;
+            conclude(state.total as usize, true, outcome, summed, window)
         }
     }
 }
@@ -311,5 +358,5 @@ pub fn finish(state: State, window: &mut [u8], output: &mut [u8]) -> Reply
 pub fn fresh() -> State
     ensures { λ r. ⌜ r ≡ freshState ⌝ }
 {
-    state_of(0, 0, 0, false)
+    state_of(0, 0, 0, false, 0)
 }

@@ -1,6 +1,6 @@
 -- `division::settle` meets its contract. Assumes nothing.
 use mathlib.Core.Path.{_∙_}
-use Rattle.division.proofs.WalkSteps.{nothing, waits, short, agreed, damaged, claimed, summed}
+use Rattle.division.proofs.WalkSteps.{nothing, waits, short, agreed, damaged, claimed, agreed-so, summed-so}
 use borrow.Author.Needs.{needs}
 use Rattle.division.proofs.settle.Statement.{statement}
 use Rattle.division.proofs.settle.Tie as tie
@@ -74,10 +74,10 @@ returns-2 c =
     let start = claims .before .before .before in
     let a = start .args in
     agreed (a .ended) (a .bytes .now) (a .reach) (a .at) (start .pre) _ (claimed (a .bytes .now) (a .at) _ (claims .claims .ensures) ∙ told .n .given .1) (c .before .before .before .before .if1 .left) _ (c .before .before .before .furthest .ensures)
-    (summed (a .bytes .now) (a .at) _ _ (c .before .agreeing .ensures) ∙ c .if2 .taken)
+    _ (summed-so (a .bytes .now) (a .at) _ _ (c .before .agreeing .ensures) (c .before .before .before .before .if1 .left)) (agreed-so (a .bytes .now) (a .at) _ _ (c .before .agreeing .ensures) ∙ c .if2 .taken)
 
-add-t17 : tie.Need-add-t17
-add-t17 c = search needs
+add-t18 : tie.Need-add-t18
+add-t18 c = search needs
 
 returns-3 : tie.Need-returns-3
 returns-3 c =
@@ -100,7 +100,7 @@ returns-5 c =
     let start = claims .before .before .before in
     let a = start .args in
     damaged (a .ended) (a .bytes .now) (a .reach) (a .at) (start .pre) _ (claimed (a .bytes .now) (a .at) _ (claims .claims .ensures) ∙ told .n .given .1) (c .before .before .before .before .if1 .left) _ (c .before .before .before .furthest .ensures)
-    (summed (a .bytes .now) (a .at) _ _ (c .before .agreeing .ensures) ∙ c .if2 .left)
+    _ (summed-so (a .bytes .now) (a .at) _ _ (c .before .agreeing .ensures) (c .before .before .before .before .if1 .left)) (agreed-so (a .bytes .now) (a .at) _ _ (c .before .agreeing .ensures) ∙ c .if2 .left)
 
 pub settle-spec : {M : Type 1} → statement M
 settle-spec =
@@ -126,7 +126,7 @@ settle-spec =
     part-agreeing-end
     agreeing-requires
     returns-2
-    add-t17
+    add-t18
     returns-3
     returns-4
     returns-5)

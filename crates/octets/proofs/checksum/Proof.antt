@@ -12,19 +12,19 @@ use Rattle.octets.proofs.checksum.Statement.{statement}
 use Rattle.octets.proofs.checksum.Tie as tie
 
 abbrev Inv-loop : tie.InvT-loop
-Inv-loop s a₀ i₀ a i = (i ≤ length s) × (checksumFrom 0 s ≡ checksumFrom a (drop i s))
+Inv-loop s value₀ count₀ a i = (i ≤ length s) × (checksumFrom 0 s ≡ checksumFrom a (drop i s))
 
 abbrev μ-loop : tie.MeasureT-loop
-μ-loop s a₀ i₀ a i = length s - i
+μ-loop s value₀ count₀ a i = length s - i
 
 loop-holds : tie.Need-loop-holds Inv-loop μ-loop
 loop-holds c = (omega arith, refl)
 
-shared-slice-read-a : tie.Need-shared-slice-read-a Inv-loop μ-loop
-shared-slice-read-a c = omega arith
+shared-slice-read-value : tie.Need-shared-slice-read-value Inv-loop μ-loop
+shared-slice-read-value c = omega arith
 
-add-i : tie.Need-add-i Inv-loop μ-loop
-add-i c = omega arith
+add-count : tie.Need-add-count Inv-loop μ-loop
+add-count c = omega arith
 
 loop-less : tie.Need-loop-less Inv-loop μ-loop
 loop-less c = omega arith
@@ -40,14 +40,17 @@ done s a i l e = sym (e ∙ rw (drop-of-length-le s l))
 loop-again : tie.Need-loop-again Inv-loop μ-loop
 loop-again c =
     let b = c .before .before in
-    (omega arith, step (b .before .args .s .now) (b .loop .a) (b .loop .i) (c .before .loop-test .taken) (b .loop .inv .1))
+    (omega arith, step (b .before .args .s .now) (b .loop .value) (b .loop .count) (c .before .loop-test .taken) (b .loop .inv .1))
 
 returns : tie.Need-returns Inv-loop μ-loop
 returns c =
     let b = c .before in
-    done (b .before .args .s .now) (b .loop .a) (b .loop .i) (c .loop-test .left) (b .loop .inv .1)
+    let s = b .before .args .s .now in
+    let value = done s (b .loop .value) (b .loop .count) (c .loop-test .left) (b .loop .inv .1) in
+    let count : b .loop .count ≡ length s = omega (arith, b .loop .inv .0) in
+    λ i. record { value = value i; count = count i }
 
 pub checksum-spec : {M : Type 1} → statement M
 checksum-spec =
     tie.close
-    (tie.spec Inv-loop μ-loop loop-holds shared-slice-read-a add-i loop-less loop-again returns)
+    (tie.spec Inv-loop μ-loop loop-holds shared-slice-read-value add-count loop-less loop-again returns)

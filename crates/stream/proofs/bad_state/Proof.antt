@@ -13,14 +13,17 @@ returns-2 : tie.Need-returns-2
 returns-2 c = rw (le-ltb _ _ (c .before .if1 .left), lt-ltb _ _ (c .if2 .taken))
 
 returns-3 : tie.Need-returns-3
-returns-3 c =
-    let x = c .before .before .before .args in
-    rw (le-ltb _ _ (c .before .before .if1 .left), le-ltb _ _ (c .before .if2 .left), lt-ltb (x .total) (x .gap + x .held) (omega arith))
+returns-3 c = rw (le-ltb _ _ (c .before .before .if1 .left), le-ltb _ _ (c .before .if2 .left), lt-ltb _ _ (c .if3 .taken))
 
 returns-4 : tie.Need-returns-4
 returns-4 c =
-    let x = c .before .before .before .args in
-    rw (le-ltb _ _ (c .before .before .if1 .left), le-ltb _ _ (c .before .if2 .left)) (sums-test (x .held) (x .gap) (x .total) (c .if3 .left))
+    let x = c .before .before .before .before .args in
+    rw (le-ltb _ _ (c .before .before .before .if1 .left), le-ltb _ _ (c .before .before .if2 .left), le-ltb _ _ (c .before .if3 .left), lt-ltb (x .total) (x .gap + x .held) (omega arith))
+
+returns-5 : tie.Need-returns-5
+returns-5 c =
+    let x = c .before .before .before .before .args in
+    rw (le-ltb _ _ (c .before .before .before .if1 .left), le-ltb _ _ (c .before .before .if2 .left), le-ltb _ _ (c .before .if3 .left)) (sums-test (x .held) (x .gap) (x .total) (c .if4 .left))
 
 pub bad-state-spec : {M : Type 1} → statement M
-bad-state-spec = tie.close (tie.spec returns returns-2 returns-3 returns-4)
+bad-state-spec = tie.close (tie.spec returns returns-2 returns-3 returns-4 returns-5)

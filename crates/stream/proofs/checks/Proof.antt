@@ -24,20 +24,20 @@ returns-4 c = has-ended _ _ _ _ (c .before .before .before .before .if1 .left) (
 sub-if5 : tie.Need-sub-if5
 sub-if5 c =
     let start = c .before .before .before .before .before .before in
-    omega (arith, bad-false (start .args .state .held) (start .args .state .gap) (start .args .state .total) (sym (c .before .before .before .bad-state .ensures) ∙ c .before .before .if3 .left) .1)
+    omega (arith, bad-false (start .args .state .held) (start .args .state .gap) (start .args .state .total) (start .args .state .summed) (sym (c .before .before .before .bad-state .ensures) ∙ c .before .before .if3 .left) .1)
 
 returns-5 : tie.Need-returns-5
 returns-5 c =
     let start = c .before .before .before .before .before .before .before in
     let good = sym (c .before .before .before .before .bad-state .ensures) ∙ c .before .before .before .if3 .left in
-    let f = bad-false (start .args .state .held) (start .args .state .gap) (start .args .state .total) good in
+    let f = bad-false (start .args .state .held) (start .args .state .gap) (start .args .state .total) (start .args .state .summed) good in
     too-much _ _ _ _ (c .before .before .before .before .before .before .if1 .left) (c .before .before .before .before .before .if2 .left) good (c .before .before .if4 .left) (omega (arith, f))
 
 returns-6 : tie.Need-returns-6
 returns-6 c =
     let start = c .before .before .before .before .before .before .before in
     let good = sym (c .before .before .before .before .bad-state .ensures) ∙ c .before .before .before .if3 .left in
-    let f = bad-false (start .args .state .held) (start .args .state .gap) (start .args .state .total) good in
+    let f = bad-false (start .args .state .held) (start .args .state .gap) (start .args .state .total) (start .args .state .summed) good in
     goes-on _ _ _ _ (c .before .before .before .before .before .before .if1 .left) (c .before .before .before .before .before .if2 .left) good (c .before .before .if4 .left) (omega (arith, f))
 
 pub checks-spec : {M : Type 1} → statement M

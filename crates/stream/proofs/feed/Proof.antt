@@ -1,6 +1,8 @@
 -- `stream::feed` meets its contract. Assumes nothing.
 use mathlib.Core.Bool.{false}
-use mathlib.Core.Path.{sym, _∙_}
+use Prim.Native.Nat.{ℕ}
+use mathlib.Core.Path.{_≡_, sym, _∙_}
+use native.Mathlib.Omega.{arith}
 use Rattle.stream.proofs.CallSteps.{feed-allowed, allowed-fits, came-fits, feed-refused, feed-goes}
 use borrow.Author.Needs.{needs}
 use Rattle.stream.proofs.feed.Statement.{statement}
@@ -21,7 +23,8 @@ enum-told c = search needs
 divide-requires : tie.Need-divide-requires
 divide-requires c κs =
     let opened = c .before .before in
-    allowed-fits _ _ _ _ (feed-allowed _ _ _ _ (sym (opened .before .before .checks .ensures) ∙ opened .enum-told .given .1))
+    let a = allowed-fits _ _ _ _ (feed-allowed _ _ _ _ (sym (opened .before .before .checks .ensures) ∙ opened .enum-told .given .1)) in
+    (a .0, a .1, λ z. absurd (let y : _≡_ {A = ℕ} 0 1 = cc in omega arith))
 
 conclude-requires : tie.Need-conclude-requires
 conclude-requires c κs =
@@ -29,7 +32,7 @@ conclude-requires c κs =
     let opened = c .before .before .before .before .before .before .before .before in
     let x = c .before .before .before .before .before .before .before .before .before .before .before .before .before .before .args in
     let a = feed-allowed _ _ _ _ (sym (opened .before .before .checks .ensures) ∙ opened .enum-told .given .1) in
-    came-fits false (x .state .total) _ (x .piece .now) (x .window .now) (x .output .now) (divided .divide .result) _ _ (a .fits) (divided .divide .ensures)
+    came-fits false (x .state .total) _ (x .piece .now) (x .window .now) (x .output .now) (divided .divide .result .outcome) _ _ _ (a .fits) (divided .divide .ensures .0)
 
 returns : tie.Need-returns
 returns c =
@@ -48,8 +51,8 @@ returns-2 c =
     let divided = c .before .before .before .before .before .before .before .before in
     let opened = c .before .before .before .before .before .before .before .before .before .before .before in
     let x = c .before .before .before .before .before .before .before .before .before .before .before .before .before .before .before .before .before .args in
-    feed-goes (x .state) (x .piece .now) (x .window .now) (x .output .now) (divided .divide .result) _ _ _ _ (sym (opened .before .before .checks .ensures) ∙ opened .enum-told .given .1)
-    (divided .divide .ensures) (concluded .conclude .ensures .0) (concluded .conclude .ensures .1)
+    feed-goes (x .state) (x .piece .now) (x .window .now) (x .output .now) (divided .divide .result .outcome) _ _ _ _ _ (sym (opened .before .before .checks .ensures) ∙ opened .enum-told .given .1)
+    (divided .divide .ensures .0) (divided .divide .ensures .1) (concluded .conclude .ensures .0) (concluded .conclude .ensures .1)
 
 pub feed-spec : {M : Type 1} → statement M
 feed-spec =

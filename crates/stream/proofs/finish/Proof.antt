@@ -1,7 +1,7 @@
 -- `stream::finish` meets its contract. Assumes nothing.
 use mathlib.Core.Bool.{true}
 use mathlib.Core.List.{[]}
-use mathlib.Core.Path.{sym, _∙_}
+use mathlib.Core.Path.{refl, sym, _∙_}
 use Rattle.stream.proofs.CallSteps.{feed-allowed, allowed-fits, came-fits, finish-refused, finish-goes}
 use borrow.Author.Needs.{needs}
 use Rattle.stream.proofs.finish.Statement.{statement}
@@ -25,7 +25,8 @@ slice-aggregate-divide c = search needs
 divide-requires : tie.Need-divide-requires
 divide-requires c κs =
     let opened = c .before .before .before in
-    allowed-fits _ _ _ _ (feed-allowed _ _ _ _ (sym (opened .before .before .checks .ensures) ∙ opened .enum-told .given .1))
+    let a = allowed-fits _ _ _ _ (feed-allowed _ _ _ _ (sym (opened .before .before .checks .ensures) ∙ opened .enum-told .given .1)) in
+    (a .0, a .1, λ z. refl)
 
 conclude-requires : tie.Need-conclude-requires
 conclude-requires c κs =
@@ -33,7 +34,7 @@ conclude-requires c κs =
     let opened = c .before .before .before .before .before .before .before .before .before in
     let x = c .before .before .before .before .before .before .before .before .before .before .before .before .before .before .args in
     let a = feed-allowed _ _ _ _ (sym (opened .before .before .checks .ensures) ∙ opened .enum-told .given .1) in
-    came-fits true (x .state .total) _ [] (x .window .now) (x .output .now) (divided .divide .result) _ _ (a .fits) (divided .divide .ensures)
+    came-fits true (x .state .total) _ [] (x .window .now) (x .output .now) (divided .divide .result .outcome) _ _ _ (a .fits) (divided .divide .ensures .0)
 
 returns : tie.Need-returns
 returns c =
@@ -52,8 +53,8 @@ returns-2 c =
     let divided = c .before .before .before .before .before .before .before .before in
     let opened = c .before .before .before .before .before .before .before .before .before .before .before .before in
     let x = c .before .before .before .before .before .before .before .before .before .before .before .before .before .before .before .before .before .args in
-    finish-goes (x .state) (x .window .now) (x .output .now) (divided .divide .result) _ _ _ _ (sym (opened .before .before .checks .ensures) ∙ opened .enum-told .given .1)
-    (divided .divide .ensures) (concluded .conclude .ensures .0) (concluded .conclude .ensures .1)
+    finish-goes (x .state) (x .window .now) (x .output .now) (divided .divide .result .outcome) _ _ _ _ _ (sym (opened .before .before .checks .ensures) ∙ opened .enum-told .given .1)
+    (divided .divide .ensures .0) (divided .divide .ensures .1) (concluded .conclude .ensures .0) (concluded .conclude .ensures .1)
 
 pub finish-spec : {M : Type 1} → statement M
 finish-spec =

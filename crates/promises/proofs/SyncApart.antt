@@ -1,0 +1,29 @@
+-- Sync strings start at least 3 bytes apart. Assumes nothing.
+use Prim.Native.Nat.{ℕ, zero, suc, _+_, _-_, _≤_, _<_}
+use mathlib.Core.Path.{_≡_, refl, ap}
+use mathlib.Core.Logic.{inl, inr}
+use mathlib.Core.List.{List}
+use native.Mathlib.Nat.{add-zero}
+use native.Mathlib.Omega.{arith}
+use lib.ListN.{getD, drop}
+use lib.Seq.{getD-drop}
+use Rattle.macm.specs.Form.{newSync, oldSync}
+use Rattle.macm.proofs.Leads.{fit-whole, begins-whole}
+use Rattle.promises.specs.Sync.{SyncAt}
+
+three : (xs : List ℕ) → SyncAt xs 0 → (getD xs 0 0 ≡ 0x4D) × (getD xs 1 0 ≡ 0x41) × (getD xs 2 0 ≡ 0x43)
+three xs (inl e) = rw (fit-whole newSync xs (begins-whole newSync xs e)) (refl, refl, refl)
+three xs (inr e) = rw (fit-whole oldSync xs (begins-whole oldSync xs e)) (refl, refl, refl)
+
+pub sync-apart : (s : List ℕ) (i j : ℕ) → SyncAt s i → SyncAt s j → i < j → i + 3 ≤ j
+sync-apart s i j a b l =
+    let x = three (drop i s) a in
+    let y = three (drop j s) b in
+    let m : getD s j 0 ≡ 0x4D = rw (getD-drop j s 0 0, add-zero j) at (y .0) in
+    go (j - i) refl m (rw (getD-drop i s 1 0) at (x .1)) (rw (getD-drop i s 2 0) at (x .2))
+  where
+    go : (d : ℕ) → j - i ≡ d → getD s j 0 ≡ 0x4D → getD s (i + 1) 0 ≡ 0x41 → getD s (i + 2) 0 ≡ 0x43 → i + 3 ≤ j
+    go zero e m p q = omega arith
+    go (suc zero) e m p q = let z : j ≡ i + 1 = omega arith in absurd (omega (arith, ap (λ k. getD s k 0) z))
+    go (suc (suc zero)) e m p q = let z : j ≡ i + 2 = omega arith in absurd (omega (arith, ap (λ k. getD s k 0) z))
+    go (suc (suc (suc d))) e m p q = omega arith
