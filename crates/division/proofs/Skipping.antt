@@ -1,9 +1,10 @@
 -- Bytes where no sync string starts are passed over at once. Assumes nothing.
-use Prim.Native.Nat.{ℕ, suc, _+_, _-_, _≤_, _<_}
-use mathlib.Core.Path.{_≡_, refl, ap, _∙_}
+use Prim.Native.Nat.{ℕ, zero, suc, _+_, _-_, _≤_, _<_}
+use mathlib.Core.Path.{_≡_, refl, sym, ap, _∙_}
 use mathlib.Core.Logic.{_⊎_, inl, inr, ⊎-elim}
 use mathlib.Core.Bool.{Bool, true, false, cond}
 use mathlib.Core.List.{List, _∷_}
+use native.Mathlib.Nat.{add-zero}
 use native.Mathlib.Omega.{arith}
 use lib.ListN.{length, getD, drop}
 use lib.Seq.{drop-cons}
@@ -57,3 +58,16 @@ no-start s k l (inr n) =
     let z : k + 1 ≡ suc k = omega arith in
     let d : drop k s ≡ getD s k 0 ∷ getD s (suc k) 0 ∷ drop (suc (suc k)) s = drop-cons s k 0 l ∙ ap (λ xs. getD s k 0 ∷ xs) (drop-cons s (suc k) 0 m) in
     ap claim d ∙ claim-second (getD s k 0) (getD s (suc k) 0) (drop (suc (suc k)) s) (rw z at (n .1))
+
+-- ---- what stays as it is over each position that claims nothing stays so over all of them
+module _ {A : Type 0} (f : ℕ → A) (s : List ℕ) (stays : (k : ℕ) → k < length s → claim (drop k s) ≡ Nothing → f k ≡ f (k + 1)) where
+  skips : (d k : ℕ) → k + d ≤ length s → ((i : ℕ) → k ≤ i → i < k + d → NoStart s i) → f k ≡ f (k + d)
+  skips zero k l n = ap f (sym (add-zero k))
+  skips (suc d) k l n =
+      let z : k + 1 + d ≡ k + suc d = omega arith in
+      stays k (omega arith) (no-start s k (omega arith) (n k (omega arith) (omega arith))) ∙ skips d (k + 1) (omega arith) (λ i a b. n i (omega arith) (omega arith)) ∙ ap f z
+
+  pub skipped-over : (from r : ℕ) → Skipped s from r → f from ≡ f r
+  skipped-over from r n =
+      let z : from + (r - from) ≡ r = omega (arith, n .from-on) in
+      skips (r - from) from (omega (arith, n .within)) (λ i a b. n .none i a (omega arith)) ∙ ap f z

@@ -1,6 +1,6 @@
 -- What each step of the walk comes to, in the definitions' words. Assumes nothing.
 use Prim.Native.Nat.{ℕ, zero, suc, _+_, _-_, _%_, _^_, _≤_, _<_}
-use mathlib.Core.Path.{_≡_, sym, ap, _∙_}
+use mathlib.Core.Path.{_≡_, refl, sym, ap, _∙_}
 use mathlib.Core.Bool.{Bool, true, false}
 use mathlib.Core.List.{List}
 use native.Mathlib.Omega.{arith}
@@ -14,6 +14,7 @@ use Rattle.macm.specs.Check.{covered, agrees, agreement}
 use Rattle.front.specs.declared.Claim.{Claim}
 use Rattle.front.specs.declared.Claim.the-variants.{Nothing, AtLeast, Long}
 use Rattle.front.specs.Claim.{claim}
+use Rattle.front.specs.Look.{testedBy}
 use Rattle.division.specs.declared.Step.{Step}
 use Rattle.division.specs.declared.Step.the-variants.{On, Stop}
 use Rattle.division.specs.declared.Passage.{Passage}
@@ -21,9 +22,9 @@ use Rattle.division.specs.declared.Walked.{Walked}
 use Rattle.division.specs.declared.Walked.the-variants.{Message, Unsettled}
 use Rattle.division.specs.Walk.{further, wanting, walkedBy, walkOf, settled, wholeWalk}
 use Rattle.division.specs.Work.{testedIn}
-use Rattle.division.specs.Steps.{NoStart, Skipped, wanted, Stepped}
-use Rattle.division.proofs.Skipping.{no-start}
-use Rattle.division.proofs.WorkSteps.{free-nothing, free-waiting, free-short, tested-here, free-skipped}
+use Rattle.division.specs.Steps.{Skipped, wanted, Stepped}
+use Rattle.division.proofs.Skipping.{skipped-over}
+use Rattle.division.proofs.WorkSteps.{tested-next}
 
 module _ (ended : Bool) (s : List ℕ) (reach at : ℕ) (l : at < length s) where
   pub walk-at : walkOf ended (drop at s) at reach ≡ walkedBy ended (claim (drop at s)) (drop at s) at reach (λ t. walkOf ended (drop (at + 1) s) (at + 1) t)
@@ -43,13 +44,15 @@ module _ (ended : Bool) (s : List ℕ) (reach at : ℕ) (l : at < length s) wher
       go false e = (e, sym (add-zero (testedIn at s)))
 
   pub waits : (k : ℕ) → claim (drop at s) ≡ AtLeast k → Stepped ended s at reach (wanted ended at reach)
-  unfolding walkedBy
-  waits k e = wants-more (rw e) (free-waiting s at l k e)
+  unfolding walkedBy testedBy
+  waits k e = wants-more (rw e) (tested-next s at l (AtLeast k) e 0 refl)
 
   module _ (n : ℕ) (e : claim (drop at s) ≡ Long n) where
     pub short : length s - at < n → Stepped ended s at reach (wanted ended at reach)
-    unfolding walkedBy
-    short m = wants-more (rw (e, lt-leb n (length (drop at s)) (omega (arith, length-drop at s)))) (free-short s at l n e m)
+    unfolding walkedBy testedBy
+    short m =
+        let k = lt-leb n (length (drop at s)) (omega (arith, length-drop at s)) in
+        wants-more (rw (e, k)) (tested-next s at l (Long n) e 0 (rw k))
 
     module _ (here : n ≤ length s - at) (u : ℕ) (q : u ≡ further reach (at + n)) where
       all : n ≤ length (drop at s)
@@ -57,7 +60,8 @@ module _ (ended : Bool) (s : List ℕ) (reach at : ℕ) (l : at < length s) wher
 
       module _ (c : ℕ) (z : c ≡ covered n) where
         counted : testedIn (at + 1) s ≡ testedIn at s + c
-        counted = tested-here s at l n e here ∙ ap (λ i. testedIn at s + i) (sym z)
+        unfolding testedBy
+        counted = tested-next s at l (Long n) e c (rw (le-leb n (length (drop at s)) all, z))
 
         pub agreed : agrees (take n (drop at s)) ≡ true → Stepped ended s at reach (Stop (Message at n u) c)
         unfolding walkedBy
@@ -68,22 +72,14 @@ module _ (ended : Bool) (s : List ℕ) (reach at : ℕ) (l : at < length s) wher
         damaged a = (omega arith, omega arith, walk-at ∙ rw (e, le-leb n (length (drop at s)) all, a, q), counted)
 
 -- over bytes where none starts
-module _ (ended : Bool) (s : List ℕ) (reach : ℕ) where
-  skips : (d k : ℕ) → k + d ≤ length s → ((i : ℕ) → k ≤ i → i < k + d → NoStart s i) → walkOf ended (drop k s) k reach ≡ walkOf ended (drop (k + d) s) (k + d) reach
-  skips zero k l n = ap (λ i. walkOf ended (drop i s) i reach) (sym (add-zero k))
-  skips (suc d) k l n =
-      let z : k + 1 + d ≡ k + suc d = omega arith in
-      passes ended s reach k (omega arith) (no-start s k (omega arith) (n k (omega arith) (omega arith)))
-      ∙ skips d (k + 1) (omega arith) (λ i a b. n i (omega arith) (omega arith)) ∙ ap (λ i. walkOf ended (drop i s) i reach) z
-
-  pub nothing : (at r : ℕ) → at < length s → claim (drop at s) ≡ Nothing → Skipped s (at + 1) r → Stepped ended s at reach (On r reach 0)
-  nothing at r l e n =
-      let z : at + 1 + (r - (at + 1)) ≡ r = omega (arith, n .from-on) in (
-        omega (arith, n .from-on),
-        n .within,
-        passes ended s reach at l e ∙ skips (r - (at + 1)) (at + 1) (omega (arith, n .within)) (λ i a b. n .none i a (omega arith)) ∙ ap (λ i. walkOf ended (drop i s) i reach) z,
-        ap (λ i. testedIn i s) (sym z) ∙ free-skipped s (r - (at + 1)) (at + 1) (omega (arith, n .within)) (λ i a b. n .none i a (omega arith)) ∙ free-nothing s at l e,
-      )
+pub nothing : (ended : Bool) (s : List ℕ) (reach at r : ℕ) → at < length s → claim (drop at s) ≡ Nothing → Skipped s (at + 1) r → Stepped ended s at reach (On r reach 0)
+unfolding testedBy
+nothing ended s reach at r l e n = (
+      omega (arith, n .from-on),
+      n .within,
+      passes ended s reach at l e ∙ skipped-over (λ i. walkOf ended (drop i s) i reach) s (λ k m q. passes ended s reach k m q) (at + 1) r n,
+      sym (skipped-over (λ i. testedIn i s) s (λ k m q. sym (tested-next s k m Nothing q 0 refl ∙ add-zero (testedIn k s))) (at + 1) r n) ∙ tested-next s at l Nothing e 0 refl,
+    )
 
 -- ---- as the code has it: what `&bytes[at..]` and `&bytes[at..end]` are, and which way a step went
 pub claimed : (s : List ℕ) (at : ℕ) (r : Claim) → r ≡ claim (take (length s - at) (drop at s)) → claim (drop at s) ≡ r
