@@ -75,11 +75,11 @@ module _ (ended : Bool) (s : List ℕ) (reach at : ℕ) (l : at < length s) wher
 pub nothing : (ended : Bool) (s : List ℕ) (reach at r : ℕ) → at < length s → claim (drop at s) ≡ Nothing → Skipped s (at + 1) r → Stepped ended s at reach (On r reach 0)
 unfolding testedBy
 nothing ended s reach at r l e n = (
-      omega (arith, n .from-on),
-      n .within,
-      passes ended s reach at l e ∙ skipped-over (λ i. walkOf ended (drop i s) i reach) s (λ k m q. passes ended s reach k m q) (at + 1) r n,
-      sym (skipped-over (λ i. testedIn i s) s (λ k m q. sym (tested-next s k m Nothing q 0 refl ∙ add-zero (testedIn k s))) (at + 1) r n) ∙ tested-next s at l Nothing e 0 refl,
-    )
+  omega (arith, n .from-on),
+  n .within,
+  passes ended s reach at l e ∙ skipped-over (λ i. walkOf ended (drop i s) i reach) s (λ k m q. passes ended s reach k m q) (at + 1) r n,
+  sym (skipped-over (λ i. testedIn i s) s (λ k m q. sym (tested-next s k m Nothing q 0 refl ∙ add-zero (testedIn k s))) (at + 1) r n) ∙ tested-next s at l Nothing e 0 refl,
+)
 
 -- ---- as the code has it: what `&bytes[at..]` and `&bytes[at..end]` are, and which way a step went
 pub claimed : (s : List ℕ) (at : ℕ) (r : Claim) → r ≡ claim (take (length s - at) (drop at s)) → claim (drop at s) ≡ r

@@ -24,12 +24,12 @@ tested-split zero k xs = ap (λ i. testedIn i xs) (zero-add k) ∙ sym (zero-add
 tested-split (suc j) k [] = omega (arith, none-in (suc j + k), none-in k)
 tested-split (suc j) k (x ∷ xs) = rw (suc-add j k) (omega (arith, tested-split j k xs))
 
--- no more than the longest message covers, for each
-pub tested-in-most : (k : ℕ) (xs : List ℕ) → testedIn k xs ≤ covered most * k
+-- for each byte no more than the longest message covers
+pub tested-most-in : (k : ℕ) (xs : List ℕ) → testedIn k xs ≤ covered most * length xs
 unfolding testedIn
-tested-in-most zero xs = omega arith
-tested-in-most (suc k) [] = omega arith
-tested-in-most (suc k) (x ∷ xs) = omega (arith, tested-most (x ∷ xs), tested-in-most k xs)
+tested-most-in zero xs = omega arith
+tested-most-in (suc k) [] = omega arith
+tested-most-in (suc k) (x ∷ xs) = omega (arith, tested-most (x ∷ xs), tested-most-in k xs)
 
 -- one position on, by what the bytes from it on claim
 pub tested-next : (s : List ℕ) (at : ℕ) → at < length s → (c : Claim) → claim (drop at s) ≡ c → (n : ℕ) → testedBy c (drop at s) ≡ n → testedIn (at + 1) s ≡ testedIn at s + n

@@ -1,15 +1,16 @@
 -- Why a call refuses, answers and leaves behind what it is to. Assumes nothing.
-use Prim.Native.Nat.{ℕ, suc, _+_, _-_, _*_, _^_, _≤_, _<_}
+use Prim.Native.Nat.{ℕ, suc, _+_, _-_, _^_, _≤_, _<_}
 use mathlib.Core.Path.{_≡_, refl, sym, ap, _∙_}
 use mathlib.Core.Bool.{Bool, true, false, cond}
 use mathlib.Core.List.{List, [], _++_, append-nil}
 use native.Mathlib.Nat.{add-zero}
 use native.Mathlib.Omega.{arith}
-use lib.ListN.{length, take, drop, replicate, length-drop}
+use lib.ListN.{length, take, drop, replicate, length-append, length-drop}
 use lib.Seq.{length-take-le}
 use lib.Dec.{ltb, eqb}
 use borrow.Author.Tests.{lt-ltb, le-ltb, ltb-true, ltb-false, eq-eqb, ne-eqb}
 use Rattle.division.specs.Work.{testedIn}
+use Rattle.division.proofs.WorkSteps.{tested-most-in}
 use Rattle.refusal.specs.declared.Refusal.{Refusal}
 use Rattle.refusal.specs.declared.Refusal.the-variants.{SmallBuffer, BadState, Ended, TooMuch}
 use Rattle.stream.specs.declared.State.{State}
@@ -22,7 +23,7 @@ use Rattle.stream.specs.declared.Outcome.the-variants.{Message, Nothing}
 use Rattle.stream.specs.Scan.{scan}
 use Rattle.stream.specs.Feed.{Fed, fed, feed, finish}
 use Rattle.stream.specs.Reader.{room, limit, mostSummed, bad, laid, checked, feedCheckedBy, feedChecked, Leaves, fedCall, feedCall, finishedCall, finishCall}
-use Rattle.stream.specs.Steps.{Allowed, Given, CameTo, Tested, replyTo}
+use Rattle.stream.specs.Steps.{Allowed, Given, CameTo, settledIn, Tested, replyTo}
 use Rattle.stream.proofs.WindowSteps.{laid-take}
 
 -- ---- a bad state
@@ -107,8 +108,8 @@ module _ (s : State) (w o p : ℕ) where
               record { window = a .window; output = a .output; held = a .held; sums = a .sums; fits = ltb-false _ _ (b .0); counted = a .counted }
           test false e = absurd (let z : _≡_ {A = ℕ} 0 1 = cc in omega arith)
 
-pub allowed-fits : (s : State) (w o p : ℕ) → Allowed s w o p → ((s .held ≤ room) × (room ≤ w) × (room ≤ o) × (s .gap + s .held + p < 2 ^ 62)) × (s .summed + 6131 * (s .held + p) < 2 ^ 63)
-allowed-fits s w o p a = ((a .held, a .window, a .output, omega (arith, a .sums, a .fits)), omega (arith, a .held, a .fits, a .counted))
+pub allowed-fits : (s : State) (w o p : ℕ) → Allowed s w o p → (s .held ≤ room) × (room ≤ w) × (room ≤ o) × (s .gap + s .held + p ≤ limit)
+allowed-fits s w o p a = (a .held, a .window, a .output, omega (arith, a .sums, a .fits))
 
 -- a finish is checked as a feed of nothing before the end
 abbrev pub unended : State → State
@@ -123,11 +124,21 @@ finish-checked s w o = go (checked s w o) refl
     go Open e = rw (le-ltb limit (s .total + 0) (checked-open s w o e .fits))
 
 -- ---- what a call leaves
--- the reply fits, and so do the bytes held
-pub came-fits : (e : Bool) (total : ℕ) (d : Fed) (p w o : List ℕ) (x : Outcome) (u : ℕ) (w₁ o₁ : List ℕ) → total + length p ≤ limit → CameTo d p w o x w₁ o₁
-    → (replyTo total e x u .state .total < 2 ^ 64) × (replyTo total e x u .state .held ≤ length w₁)
-came-fits e total d p w o (Message n g t h) u w₁ o₁ l c = (omega (arith, c .within), omega (arith, c .held, c .same))
-came-fits e total d p w o (Nothing g t h) u w₁ o₁ l c = (omega arith, omega arith)
+-- the reply fits, and so do the bytes held and the bytes summed
+pub came-fits : (e : Bool) (s : State) (d : Fed) (p w o : List ℕ) (x : Outcome) (u : ℕ) (w₁ o₁ : List ℕ) → Allowed s (length w) (length o) (length p) → CameTo d p w o x w₁ o₁
+    → Tested (s .gap) (take (s .held) w ++ p) x u
+    → (s .summed + u < 2 ^ 64) × (replyTo (s .total) e x (s .summed + u) .state .total < 2 ^ 64) × (replyTo (s .total) e x (s .summed + u) .state .held ≤ length w₁)
+came-fits e s d p w o x u w₁ o₁ a c k = (omega (arith, k .sum, a .counted, tested-most-in (settledIn (s .gap) x) xs, long, a .held, a .fits), go x c .0, go x c .1)
+  where
+    xs : List ℕ
+    xs = take (s .held) w ++ p
+
+    long : length xs ≡ s .held + length p
+    long = omega (arith, length-append (take (s .held) w) p, length-take-le (s .held) w (omega (arith, a .held, a .window)))
+
+    go : (x : Outcome) → CameTo d p w o x w₁ o₁ → (replyTo (s .total) e x (s .summed + u) .state .total < 2 ^ 64) × (replyTo (s .total) e x (s .summed + u) .state .held ≤ length w₁)
+    go (Message n g t h) c = (omega (arith, c .within, a .fits), omega (arith, c .held, c .same))
+    go (Nothing g t h) c = (omega (arith, a .fits), omega arith)
 
 module _ (s : State) (p w o : List ℕ) (d : Fed) (w₁ w₂ o₁ : List ℕ) (r : Reply) (v : w₂ ≡ take (r .state .held) w₁ ++ replicate (length w₁ - r .state .held) 0) where
   module _ (h : ℕ) (within : h ≤ length w) (same : length w₁ ≡ length w) where
@@ -138,29 +149,29 @@ module _ (s : State) (p w o : List ℕ) (d : Fed) (w₁ w₂ o₁ : List ℕ) (r
     clean z = laid-take h w w₁ w₂ (omega arith) same (v ∙ rw z)
 
   module _ (n g t h u : ℕ) (c : Given d p w o n g t h w₁ o₁) where
-    fed-message : u ≡ s .summed + testedIn (suc (g - s .gap)) (take (s .held) w ++ p) → r ≡ replyTo (s .total) false (Message n g t h) u → Leaves (fedCall s w o p d) r w₂ o₁
+    fed-message : u ≡ testedIn (suc (g - s .gap)) (take (s .held) w ++ p) → r ≡ replyTo (s .total) false (Message n g t h) (s .summed + u) → Leaves (fedCall s w o p d) r w₂ o₁
     fed-message e q =
         let z : r .state .held ≡ h = ap (λ y. y .state .held) q in
         let y : length p - length (drop t p) ≡ t = omega (arith, length-drop t p, c .within) in
-        rw (c .is) (record { reply = q ∙ ap (replyTo (s .total) false (Message n g t h)) e ∙ sym (rw (c .size, kept h (c .held) (c .same), y)); window = clean h (c .held) (c .same) z; output = c .output })
+        rw (c .is) (record { reply = q ∙ ap (λ i. replyTo (s .total) false (Message n g t h) (s .summed + i)) e ∙ sym (rw (c .size, kept h (c .held) (c .same), y)); window = clean h (c .held) (c .same) z; output = c .output })
 
-    finished-message : length p ≡ 0 → u ≡ s .summed + testedIn (suc (g - s .gap)) (take (s .held) w) → r ≡ replyTo (s .total) true (Message n g t h) u → Leaves (finishedCall s w o d) r w₂ o₁
+    finished-message : length p ≡ 0 → u ≡ testedIn (suc (g - s .gap)) (take (s .held) w) → r ≡ replyTo (s .total) true (Message n g t h) (s .summed + u) → Leaves (finishedCall s w o d) r w₂ o₁
     finished-message none e q =
         let z : r .state .held ≡ h = ap (λ y. y .state .held) q in
         let y : t ≡ 0 = omega (arith, c .within) in
-        rw (c .is) (record { reply = q ∙ ap (replyTo (s .total) true (Message n g t h)) e ∙ rw (y, add-zero (s .total)) (sym (rw (c .size, kept h (c .held) (c .same)))); window = clean h (c .held) (c .same) z; output = c .output })
+        rw (c .is) (record { reply = q ∙ ap (λ i. replyTo (s .total) true (Message n g t h) (s .summed + i)) e ∙ rw (y, add-zero (s .total)) (sym (rw (c .size, kept h (c .held) (c .same)))); window = clean h (c .held) (c .same) z; output = c .output })
 
   module _ (g t h u : ℕ) (c : CameTo d p w o (Nothing g t h) w₁ o₁) where
-    fed-nothing : u ≡ s .summed + testedIn (g - s .gap) (take (s .held) w ++ p) → r ≡ replyTo (s .total) false (Nothing g t h) u → Leaves (fedCall s w o p d) r w₂ o₁
+    fed-nothing : u ≡ testedIn (g - s .gap) (take (s .held) w ++ p) → r ≡ replyTo (s .total) false (Nothing g t h) (s .summed + u) → Leaves (fedCall s w o p d) r w₂ o₁
     fed-nothing e q =
         let z : r .state .held ≡ h = ap (λ y. y .state .held) q in
-        rw (c .0) (record { reply = q ∙ ap (replyTo (s .total) false (Nothing g t h)) e ∙ sym (rw (kept h (c .2) (c .3), ← c .1)); window = clean h (c .2) (c .3) z; output = c .4 })
+        rw (c .0) (record { reply = q ∙ ap (λ i. replyTo (s .total) false (Nothing g t h) (s .summed + i)) e ∙ sym (rw (kept h (c .2) (c .3), ← c .1)); window = clean h (c .2) (c .3) z; output = c .4 })
 
-    finished-nothing : length p ≡ 0 → u ≡ s .summed + testedIn (g - s .gap) (take (s .held) w) → r ≡ replyTo (s .total) true (Nothing g t h) u → Leaves (finishedCall s w o d) r w₂ o₁
+    finished-nothing : length p ≡ 0 → u ≡ testedIn (g - s .gap) (take (s .held) w) → r ≡ replyTo (s .total) true (Nothing g t h) (s .summed + u) → Leaves (finishedCall s w o d) r w₂ o₁
     finished-nothing none e q =
         let z : r .state .held ≡ h = ap (λ y. y .state .held) q in
         let y : t ≡ 0 = c .1 ∙ none in
-        rw (c .0) (record { reply = q ∙ ap (replyTo (s .total) true (Nothing g t h)) e ∙ rw (y, add-zero (s .total)) (sym (rw (kept h (c .2) (c .3)))); window = clean h (c .2) (c .3) z; output = c .4 })
+        rw (c .0) (record { reply = q ∙ ap (λ i. replyTo (s .total) true (Nothing g t h) (s .summed + i)) e ∙ rw (y, add-zero (s .total)) (sym (rw (kept h (c .2) (c .3)))); window = clean h (c .2) (c .3) z; output = c .4 })
 
 -- ---- the calls
 module _ (s : State) (p w o : List ℕ) where
@@ -169,7 +180,7 @@ module _ (s : State) (p w o : List ℕ) where
   feed-refused r a z q = rw z (record { reply = q; window = refl; output = refl })
 
   pub feed-goes : (x : Outcome) (u : ℕ) (w₁ o₁ w₂ : List ℕ) (r : Reply) → feedChecked s (length w) (length o) (length p) ≡ Open → CameTo (fed p (scan false (take (s .held) w) (s .gap))) p w o x w₁ o₁
-      → Tested (s .gap) (s .summed) (take (s .held) w ++ p) x u → r ≡ replyTo (s .total) false x u → w₂ ≡ take (r .state .held) w₁ ++ replicate (length w₁ - r .state .held) 0 → Leaves (feedCall s p w o) r w₂ o₁
+      → Tested (s .gap) (take (s .held) w ++ p) x u → r ≡ replyTo (s .total) false x (s .summed + u) → w₂ ≡ take (r .state .held) w₁ ++ replicate (length w₁ - r .state .held) 0 → Leaves (feedCall s p w o) r w₂ o₁
   unfolding feedCall feed
   feed-goes (Message n g t h) u w₁ o₁ w₂ r z c k q v = rw z (fed-message s p w o _ w₁ w₂ o₁ r v n g t h u c (k .sum) q)
   feed-goes (Nothing g t h) u w₁ o₁ w₂ r z c k q v = rw z (fed-nothing s p w o _ w₁ w₂ o₁ r v g t h u c (k .sum) q)
@@ -180,7 +191,7 @@ module _ (s : State) (w o : List ℕ) where
   finish-refused r a z q = rw (sym (finish-checked s (length w) (length o)) ∙ z) (record { reply = q; window = refl; output = refl })
 
   pub finish-goes : (x : Outcome) (u : ℕ) (w₁ o₁ w₂ : List ℕ) (r : Reply) → feedChecked (unended s) (length w) (length o) 0 ≡ Open → CameTo (fed [] (scan true (take (s .held) w) (s .gap))) [] w o x w₁ o₁
-      → Tested (s .gap) (s .summed) (take (s .held) w ++ []) x u → r ≡ replyTo (s .total) true x u → w₂ ≡ take (r .state .held) w₁ ++ replicate (length w₁ - r .state .held) 0 → Leaves (finishCall s w o) r w₂ o₁
+      → Tested (s .gap) (take (s .held) w ++ []) x u → r ≡ replyTo (s .total) true x (s .summed + u) → w₂ ≡ take (r .state .held) w₁ ++ replicate (length w₁ - r .state .held) 0 → Leaves (finishCall s w o) r w₂ o₁
   unfolding finishCall finish
   finish-goes (Message n g t h) u w₁ o₁ w₂ r z c k q v = rw (sym (finish-checked s (length w) (length o)) ∙ z) (finished-message s [] w o _ w₁ w₂ o₁ r v n g t h u c refl (rw (append-nil (take (s .held) w)) at (k .sum)) q)
   finish-goes (Nothing g t h) u w₁ o₁ w₂ r z c k q v = rw (sym (finish-checked s (length w) (length o)) ∙ z) (finished-nothing s [] w o _ w₁ w₂ o₁ r v g t h u c refl (rw (append-nil (take (s .held) w)) at (k .sum)) q)

@@ -1,13 +1,14 @@
 -- The laws of a scan: what it has settled stays, and where it comes to. Assumes nothing.
-use Prim.Native.Nat.{ℕ, suc, _+_, _≤_, _<_}
-use mathlib.Core.Path.{_≡_, refl}
+use Prim.Native.Nat.{ℕ, suc, _+_, _-_, _≤_, _<_}
+use mathlib.Core.Path.{_≡_, refl, ap, ap₂, _∙_}
 use mathlib.Core.Bool.{Bool, true, false}
-use mathlib.Core.List.{List, [], _∷_, _++_}
+use mathlib.Core.List.{List, [], _∷_, _++_, append-nil}
 use native.Mathlib.Omega.{arith}
 use lib.ListN.{length, drop}
-use Rattle.front.specs.Look.{Look, unsettled, gap, message, look}
-use Rattle.front.proofs.Settled.{look-append}
+use Rattle.front.specs.Look.{Look, unsettled, gap, message, look, tested}
+use Rattle.front.proofs.Settled.{look-append, tested-append}
 use Rattle.front.proofs.Bounds.{LookFact, look-fact, most, need-most}
+use Rattle.division.specs.Work.{testedIn}
 use Rattle.division.proofs.DivideSteps.{look-nil}
 use Rattle.stream.specs.Scan.{settle, seen, Scan, got, stop, scanned, scan}
 
@@ -90,3 +91,33 @@ scan-empty-at (x ∷ xs) g = go (look (x ∷ xs)) (scan-empty-at xs (suc g))
     go unsettled h = h
     go gap h = h
     go (message n) h = tt
+
+-- ---- what was tested for the positions that it settled stays with more bytes; at the end of the stream none come
+abbrev pub TestedStays : List ℕ → List ℕ → ℕ → Scan → Type 0
+TestedStays xs ys g (got g′ n r) = (g ≤ g′) × (testedIn (suc (g′ - g)) (xs ++ ys) ≡ testedIn (suc (g′ - g)) xs)
+TestedStays xs ys g (stop g′ r) = (g ≤ g′) × (testedIn (g′ - g) (xs ++ ys) ≡ testedIn (g′ - g) xs)
+
+gap-stays : (e : Bool) (xs ys : List ℕ) → seen e xs ≡ gap → (e ≡ true → ys ≡ []) → tested (xs ++ ys) ≡ tested xs
+unfolding seen settle
+gap-stays true xs ys s n = rw (n refl, append-nil xs)
+gap-stays false xs ys s n = tested-append xs ys ∙ rw s
+
+pub tested-stays : (e : Bool) (xs ys : List ℕ) (g : ℕ) → (e ≡ true → ys ≡ []) → TestedStays xs ys g (scan e xs g)
+unfolding scan scanned seen settle testedIn
+tested-stays e [] ys g n = let z : g - g ≡ 0 = omega arith in (omega arith, rw z)
+tested-stays e (x ∷ xs) ys g n = go e (look (x ∷ xs)) refl n (tested-stays e xs ys (suc g) n)
+  where
+    on : (e : Bool) → seen e (x ∷ xs) ≡ gap → (e ≡ true → ys ≡ []) → (s : Scan) → TestedStays xs ys (suc g) s → TestedStays (x ∷ xs) ys g s
+    on e q n (got g′ k r) h = let z : g′ - g ≡ suc (g′ - suc g) = omega (arith, h .0) in (omega (arith, h .0), rw z (ap₂ (λ i j. i + j) (gap-stays e (x ∷ xs) ys q n) (h .1)))
+    on e q n (stop g′ r) h = let z : g′ - g ≡ suc (g′ - suc g) = omega (arith, h .0) in (omega (arith, h .0), rw z (ap₂ (λ i j. i + j) (gap-stays e (x ∷ xs) ys q n) (h .1)))
+
+    none : g - g ≡ 0
+    none = omega arith
+
+    go : (e : Bool) (l : Look) → look (x ∷ xs) ≡ l → (e ≡ true → ys ≡ []) → TestedStays xs ys (suc g) (scan e xs (suc g)) → TestedStays (x ∷ xs) ys g (scanned (settle e l) g (x ∷ xs) (scan e xs (suc g)))
+    go true unsettled q n h = on true (rw q) n (scan true xs (suc g)) h
+    go true gap q n h = on true (rw q) n (scan true xs (suc g)) h
+    go false unsettled q n h = (omega arith, rw none)
+    go false gap q n h = on false q n (scan false xs (suc g)) h
+    go true (message k) q n h = (omega arith, rw none (ap (λ i. i + 0) (tested-append (x ∷ xs) ys ∙ rw q)))
+    go false (message k) q n h = (omega arith, rw none (ap (λ i. i + 0) (tested-append (x ∷ xs) ys ∙ rw q)))

@@ -68,7 +68,7 @@ came-given d p w₀ w o k n g t xs l w′ o′ e inside within room same v =
     }
 
 -- ---- the piece divided in place, by where the walk over the rest of it stops
-module _ (g t : ℕ) (p w o : List ℕ) (fits : (t ≤ length p) × (6136 ≤ length w) × (6136 ≤ length o) × (g + length p < 2 ^ 63)) (r : Walked) (z : r ≡ walkOf false (take (length p - t) (drop t p)) 0 0) where
+module _ (g t : ℕ) (p w o : List ℕ) (fits : (t ≤ length p) × (6136 ≤ length w) × (6136 ≤ length o) × (g + length p ≤ 2 ^ 49)) (r : Walked) (z : r ≡ walkOf false (take (length p - t) (drop t p)) 0 0) where
   rest-long : length (take (length p - t) (drop t p)) ≡ length p - t
   rest-long = ap length (tail p t) ∙ length-drop t p
 
@@ -165,7 +165,7 @@ same-came d d′ p w w₀ o o₀ (Message n g t h) w′ o′ e s i c =
     record { message = c .message; is = e ∙ c .is; size = c .size; within = c .within; held = omega (arith, c .held); same = c .same ∙ s; output = c .output ∙ ap (over (c .message)) i }
 same-came d d′ p w w₀ o o₀ (Nothing g t h) w′ o′ e s i c = (e ∙ c .0, c .1, omega arith, c .3 ∙ s, c .4 ∙ i)
 
-module _ (e : Bool) (h₀ g₀ : ℕ) (w₀ o₀ p : List ℕ) (h g t : ℕ) (w o : List ℕ) (f : Filling e h₀ g₀ w₀ o₀ p h g t w o) (fits : (h₀ ≤ 6136) × (6136 ≤ length w₀) × (6136 ≤ length o₀) × (g₀ + h₀ + length p < 2 ^ 62)) where
+module _ (e : Bool) (h₀ g₀ : ℕ) (w₀ o₀ p : List ℕ) (h g t : ℕ) (w o : List ℕ) (f : Filling e h₀ g₀ w₀ o₀ p h g t w o) (fits : (h₀ ≤ 6136) × (6136 ≤ length w₀) × (6136 ≤ length o₀) × (g₀ + h₀ + length p ≤ 2 ^ 48)) where
   pub filling-held : h ≤ length w
   filling-held = omega (arith, f .same, f .room)
 
@@ -187,17 +187,17 @@ module _ (e : Bool) (h₀ g₀ : ℕ) (w₀ o₀ p : List ℕ) (h g t : ℕ) (w 
       pub turn-message : (k ≤ k + n) × (k + n ≤ length w) × (k + n - k ≤ length o)
       turn-message = (omega arith, omega (arith, turn-inside, filling-held), omega (arith, turn-inside, f .room, f .same-output))
 
+      pub gives : scan e (take h w) g ≡ got (g + k) n (drop k (take h w))
+      gives = let m = found-message e (take h w) r z k n u q in let y : m .ahead ≡ k = omega (arith, m .counted) in m .is g ∙ rw y
+
       pub turn-given : (w′ o′ : List ℕ) → o′ ≡ over (take (k + n - k) (drop k w)) o → w′ ≡ paste w 0 (drop (k + n) w) (h - (k + n)) → CameTo Come p w₀ o₀ (Message n (g + k) t (h - (k + n))) w′ o′
       turn-given w′ o′ a b =
-          let m = found-message e (take h w) r z k n u q in
-          let y : m .ahead ≡ k = omega (arith, m .counted) in
-          let s : scan e (take h w) g ≡ got (g + k) n (drop k (take h w)) = m .is g ∙ rw y in
           let v = gave-held k n h w o o′ w′ turn-inside filling-held a b in
           same-came Come Come p w₀ w₀ o o₀ (Message n (g + k) t (h - (k + n))) w′ o′ refl refl (f .output)
-          (came-given Come p w₀ w o k n (g + k) t (take h w) (h - (k + n)) w′ o′ (f .feeds ∙ ap (fed (drop t p)) s ∙ fed-got _ _ _ _) (omega (arith, turn-inside, length-held)) (f .within) (omega (arith, length-held, f .room)) (f .same) v)
+          (came-given Come p w₀ w o k n (g + k) t (take h w) (h - (k + n)) w′ o′ (f .feeds ∙ ap (fed (drop t p)) gives ∙ fed-got _ _ _ _) (omega (arith, turn-inside, length-held)) (f .within) (omega (arith, length-held, f .room)) (f .same) v)
 
     module _ (k : ℕ) (q : r ≡ Unsettled k) where
-      stops : scan e (take h w) g ≡ stop (g + k) (drop k (take h w))
+      pub stops : scan e (take h w) g ≡ stop (g + k) (drop k (take h w))
       stops = let m = found-none e (take h w) r z k q in let y : m .ahead ≡ k = omega (arith, m .counted) in m .is g ∙ rw y
 
       pub turn-within : k ≤ h
@@ -206,7 +206,7 @@ module _ (e : Bool) (h₀ g₀ : ℕ) (w₀ o₀ p : List ℕ) (h g t : ℕ) (w 
       pub turn-gap : Fits w64 (g + k)
       turn-gap = record { fits = omega (arith, turn-within, f .sums, f .within) }
 
-      pub turn-place-fits : (t ≤ length p) × (6136 ≤ length w) × (6136 ≤ length o) × (g + k + length p < 2 ^ 63)
+      pub turn-place-fits : (t ≤ length p) × (6136 ≤ length w) × (6136 ≤ length o) × (g + k + length p ≤ 2 ^ 49)
       turn-place-fits = (f .within, omega (arith, f .same), omega (arith, f .same-output), omega (arith, turn-within, f .sums, f .within))
 
       pub length-left : length (drop k (take h w)) ≡ h - k

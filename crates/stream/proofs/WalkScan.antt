@@ -1,8 +1,8 @@
 -- What the walk of `division` finds is what a scan finds. Assumes nothing.
-use Prim.Native.Nat.{ℕ, suc, _+_, _*_, _^_, _≤_, _<_}
-use mathlib.Core.Path.{_≡_, refl, sym, ap, ap₂, _∙_}
+use Prim.Native.Nat.{ℕ, suc, _+_, _≤_}
+use mathlib.Core.Path.{_≡_, refl, sym, ap, _∙_}
 use mathlib.Core.Bool.{Bool, true, false, cond}
-use mathlib.Core.List.{List, [], _∷_, _++_, append-nil}
+use mathlib.Core.List.{List, [], _∷_}
 use native.Mathlib.Nat.{add-zero, add-suc, suc-add}
 use native.Mathlib.Omega.{arith}
 use lib.ListN.{length, take, drop}
@@ -12,15 +12,11 @@ use Rattle.macm.specs.Check.{agrees}
 use Rattle.front.specs.declared.Claim.{Claim}
 use Rattle.front.specs.declared.Claim.the-variants.{Nothing, AtLeast, Long}
 use Rattle.front.specs.Claim.{claim}
-use Rattle.front.specs.Look.{unsettled, gap, message, judged, lookBy, look, tested}
-use Rattle.front.proofs.Settled.{tested-append}
+use Rattle.front.specs.Look.{unsettled, gap, message, judged, lookBy, look}
 use Rattle.front.proofs.Bounds.{ClaimFact, claim-fact}
 use Rattle.division.specs.declared.Walked.{Walked}
 use Rattle.division.specs.declared.Walked.the-variants.{Message, Unsettled}
-use Rattle.division.specs.declared.Passage.{Passage}
-use Rattle.division.specs.Walk.{further, wanting, walkedBy, walkOf, settled, wholeWalk}
-use Rattle.division.specs.Work.{testedIn}
-use Rattle.division.proofs.WorkSteps.{tested-in-most}
+use Rattle.division.specs.Walk.{further, wanting, walkedBy, walkOf}
 use Rattle.stream.specs.Scan.{settle, seen, got, stop, scanned, scan}
 
 -- a message of n bytes, `ahead` bytes on
@@ -30,31 +26,20 @@ pub record FoundMessage (e : Bool) (xs : List ℕ) (at k n : ℕ) : Type 0 where
   pub within : ahead + n ≤ length xs
   pub long : 15 ≤ n
   pub is : (g : ℕ) → scan e xs g ≡ got (g + ahead) n (drop ahead xs)
-  pub keeps : (ys : List ℕ) → (e ≡ true → ys ≡ []) → testedIn (suc ahead) (xs ++ ys) ≡ testedIn (suc ahead) xs
 
 pub record FoundNone (e : Bool) (xs : List ℕ) (at k : ℕ) : Type 0 where
   pub ahead : ℕ
   pub counted : k ≡ at + ahead
   pub within : ahead ≤ length xs
   pub is : (g : ℕ) → scan e xs g ≡ stop (g + ahead) (drop ahead xs)
-  pub keeps : (ys : List ℕ) → (e ≡ true → ys ≡ []) → testedIn ahead (xs ++ ys) ≡ testedIn ahead xs
 
 abbrev pub Found : Bool → List ℕ → ℕ → Walked → Type 0
 Found e xs at (Message k n t) = FoundMessage e xs at k n
 Found e xs at (Unsettled k) = FoundNone e xs at k
 
--- what was tested to settle a position is so with more bytes; at the end of the stream no more come
-gap-keeps : (e : Bool) (xs ys : List ℕ) → seen e xs ≡ gap → (e ≡ true → ys ≡ []) → tested (xs ++ ys) ≡ tested xs
-unfolding seen settle
-gap-keeps true xs ys s n = rw (n refl, append-nil xs)
-gap-keeps false xs ys s n = tested-append xs ys ∙ rw s
-
-message-keeps : (e : Bool) (xs ys : List ℕ) (n : ℕ) → look xs ≡ message n → (e ≡ true → ys ≡ []) → tested (xs ++ ys) ≡ tested xs
-message-keeps e xs ys n s z = tested-append xs ys ∙ rw s
-
 -- one gap byte more in front
 one-more : (e : Bool) (x : ℕ) (xs : List ℕ) (at : ℕ) → seen e (x ∷ xs) ≡ gap → (w : Walked) → Found e xs (suc at) w → Found e (x ∷ xs) at w
-unfolding scan scanned testedIn
+unfolding scan scanned
 one-more e x xs at s (Message k n t) h =
     record {
       ahead = suc (h .ahead);
@@ -62,7 +47,6 @@ one-more e x xs at s (Message k n t) h =
       within = omega (arith, h .within);
       long = h .long;
       is = λ g. rw s (h .is (suc g) ∙ ap (λ i. got i n (drop (h .ahead) xs)) (suc-add g (h .ahead) ∙ sym (add-suc g (h .ahead))));
-      keeps = λ ys n. ap₂ (λ i j. i + j) (gap-keeps e (x ∷ xs) ys s n) (h .keeps ys n);
     }
 one-more e x xs at s (Unsettled k) h =
     record {
@@ -70,16 +54,15 @@ one-more e x xs at s (Unsettled k) h =
       counted = omega (arith, h .counted);
       within = omega (arith, h .within);
       is = λ g. rw s (h .is (suc g) ∙ ap (λ i. stop i (drop (h .ahead) xs)) (suc-add g (h .ahead) ∙ sym (add-suc g (h .ahead))));
-      keeps = λ ys n. ap₂ (λ i j. i + j) (gap-keeps e (x ∷ xs) ys s n) (h .keeps ys n);
     }
 
 pub walk-scan : (e : Bool) (xs : List ℕ) (at t : ℕ) → Found e xs at (walkOf e xs at t)
-unfolding walkOf walkedBy scan scanned seen settle look lookBy judged testedIn
-walk-scan e [] at t = record { ahead = 0; counted = omega arith; within = omega arith; is = λ g. ap (λ i. stop i []) (sym (add-zero g)); keeps = λ ys n. refl }
+unfolding walkOf walkedBy scan scanned seen settle look lookBy judged
+walk-scan e [] at t = record { ahead = 0; counted = omega arith; within = omega arith; is = λ g. ap (λ i. stop i []) (sym (add-zero g)) }
 walk-scan e (x ∷ xs) at t = go e (claim (x ∷ xs)) refl (claim-fact (x ∷ xs)) (walk-scan e xs (suc at))
   where
     here : (e : Bool) → seen e (x ∷ xs) ≡ unsettled → FoundNone e (x ∷ xs) at at
-    here e s = record { ahead = 0; counted = omega arith; within = omega arith; is = λ g. rw s (ap (λ i. stop i (x ∷ xs)) (sym (add-zero g))); keeps = λ ys n. refl }
+    here e s = record { ahead = 0; counted = omega arith; within = omega arith; is = λ g. rw s (ap (λ i. stop i (x ∷ xs)) (sym (add-zero g))) }
 
     -- a position that wants bytes
     wants : (e : Bool) → look (x ∷ xs) ≡ unsettled → (t : ℕ) → ((t : ℕ) → Found e xs (suc at) (walkOf e xs (suc at) t)) → Found e (x ∷ xs) at (wanting e at (walkOf e xs (suc at) t))
@@ -91,8 +74,8 @@ walk-scan e (x ∷ xs) at t = go e (claim (x ∷ xs)) refl (claim-fact (x ∷ xs
     passes false s t ih = one-more false x xs at s (walkOf false xs (suc at) t) (ih t)
 
     stands : (e : Bool) (n : ℕ) → 15 ≤ n → n ≤ length (x ∷ xs) → look (x ∷ xs) ≡ message n → FoundMessage e (x ∷ xs) at at n
-    stands true n h l s = record { ahead = 0; counted = omega arith; within = omega arith; long = h; is = λ g. rw s (ap (λ i. got i n (x ∷ xs)) (sym (add-zero g))); keeps = λ ys z. ap (λ i. i + 0) (message-keeps true (x ∷ xs) ys n s z) }
-    stands false n h l s = record { ahead = 0; counted = omega arith; within = omega arith; long = h; is = λ g. rw s (ap (λ i. got i n (x ∷ xs)) (sym (add-zero g))); keeps = λ ys z. ap (λ i. i + 0) (message-keeps false (x ∷ xs) ys n s z) }
+    stands true n h l s = record { ahead = 0; counted = omega arith; within = omega arith; long = h; is = λ g. rw s (ap (λ i. got i n (x ∷ xs)) (sym (add-zero g))) }
+    stands false n h l s = record { ahead = 0; counted = omega arith; within = omega arith; long = h; is = λ g. rw s (ap (λ i. got i n (x ∷ xs)) (sym (add-zero g))) }
 
     go : (e : Bool) (c : Claim) → claim (x ∷ xs) ≡ c → ClaimFact (x ∷ xs) c → ((t : ℕ) → Found e xs (suc at) (walkOf e xs (suc at) t)) → Found e (x ∷ xs) at (walkedBy e c (x ∷ xs) at t (λ u. walkOf e xs (suc at) u))
     go e Nothing p h ih = passes e (rw p) t ih
@@ -115,24 +98,3 @@ module _ (e : Bool) (xs : List ℕ) (w : Walked) (z : w ≡ walkOf e xs 0 0) whe
 
   pub found-none : (k : ℕ) → w ≡ Unsettled k → FoundNone e xs 0 k
   found-none k q = rw q at found
-
--- ---- the bytes that it ran through the checksum, where 64 bits hold their number
-module _ (e : Bool) (xs : List ℕ) (r : Passage) (z : r ≡ wholeWalk e xs) (fits : 6131 * length xs < 2 ^ 64) where
-  settled-within : settled (walkOf e xs 0 0) ≤ length xs
-  settled-within = go (walkOf e xs 0 0) (walk-scan e xs 0 0)
-    where
-      go : (w : Walked) → Found e xs 0 w → settled w ≤ length xs
-      go (Message k n t) f = omega (arith, f .counted, f .within, f .long)
-      go (Unsettled k) f = omega (arith, f .counted, f .within)
-
-  pub walked-so : r .walked ≡ walkOf e xs 0 0
-  walked-so = ap (λ i. i .walked) z
-
-  summed-so : r .summed ≡ testedIn (settled (walkOf e xs 0 0)) xs
-  summed-so = omega (arith, ap (λ i. i .summed) z, tested-in-most (settled (walkOf e xs 0 0)) xs, settled-within)
-
-  pub summed-at : (w : Walked) → r .walked ≡ w → r .summed ≡ testedIn (settled w) xs
-  summed-at w q = summed-so ∙ ap (λ i. testedIn (settled i) xs) (sym walked-so ∙ q)
-
-  pub summed-most : r .summed ≤ 6131 * length xs
-  summed-most = omega (arith, summed-so, tested-in-most (settled (walkOf e xs 0 0)) xs, settled-within)

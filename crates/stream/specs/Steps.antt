@@ -48,7 +48,7 @@ abbrev pub CameTo : Fed → List ℕ → List ℕ → List ℕ → Outcome → L
 CameTo d p w o (Message n g t h) w′ o′ = Given d p w o n g t h w′ o′
 CameTo d p w o (Nothing g t h) w′ o′ = (d ≡ more g (take h w′)) × (t ≡ length p) × (h ≤ length w) × (length w′ ≡ length w) × (o′ ≡ o)
 
--- ---- and the bytes that it has run through the checksum: with g₀ gap bytes before, s₀ bytes summed and the bytes xs to come, s bytes after it
+-- ---- and the bytes that it has run through the checksum: those of the positions that it settled, with g₀ gap bytes before and the bytes xs to come
 abbrev pub gapIn : Outcome → ℕ
 gapIn (Message n g t h) = g
 gapIn (Nothing g t h) = g
@@ -57,9 +57,9 @@ abbrev pub settledIn : ℕ → Outcome → ℕ
 settledIn g₀ (Message n g t h) = suc (g - g₀)
 settledIn g₀ (Nothing g t h) = g - g₀
 
-pub record Tested (g₀ s₀ : ℕ) (xs : List ℕ) (x : Outcome) (s : ℕ) : Type 0 where
+pub record Tested (g₀ : ℕ) (xs : List ℕ) (x : Outcome) (summed : ℕ) : Type 0 where
   pub from-on : g₀ ≤ gapIn x
-  pub sum : s ≡ s₀ + testedIn (settledIn g₀ x) xs
+  pub sum : summed ≡ testedIn (settledIn g₀ x) xs
 
 -- ---- the reply to it, of a finish or of a feed
 abbrev pub noMessage : Bool → ℕ → Answer

@@ -6,7 +6,7 @@ use refusal::Refusal;
 ghost use mathlib.Core.Path.{_≡_};
 ghost use mathlib.Core.List.{[], _++_};
 ghost use mathlib.Core.Bool.{true};
-ghost use Prim.Native.Nat.{_+_, _-_, _*_, _^_, _<_, _≤_};
+ghost use Prim.Native.Nat.{_+_, _-_, _^_, _<_, _≤_};
 ghost use lib.ListN.{length, take, drop, replicate};
 ghost use lib.Seq.{paste};
 ghost use mir.Val.{boolByte};
@@ -55,7 +55,7 @@ enum Outcome {
     Nothing(usize, usize, usize),
 }
 
-// With all bytes run through the checksum up to there.
+// With the bytes that the call ran through the checksum.
 struct Counted {
     outcome: Outcome,
     summed: usize,
@@ -165,22 +165,15 @@ fn pull(from: usize, n: usize, taken: usize, piece: &[u8], window: &mut [u8]) ->
 }
 
 // The rest of a feed once `taken` bytes of the piece are taken, nothing is held and `gap` bytes stand before: the piece is divided where it stands.
-fn in_place(
-    gap: usize,
-    taken: usize,
-    summed: usize,
-    piece: &[u8],
-    window: &mut [u8],
-    output: &mut [u8],
-) -> Counted
-    requires { ⌜ ((taken ≤ length (now piece)) × (6136 ≤ length (now window)) × (6136 ≤ length (now output)) × (gap + length (now piece) < 2 ^ 63)) × (summed + 6131 * (length (now piece) - taken) < 2 ^ 63) ⌝ }
+fn in_place(gap: usize, taken: usize, piece: &[u8], window: &mut [u8], output: &mut [u8]) -> Counted
+    requires { ⌜ (taken ≤ length (now piece)) × (6136 ≤ length (now window)) × (6136 ≤ length (now output)) × (gap + length (now piece) ≤ 2 ^ 49) ⌝ }
     ensures { λ r. ⌜ CameTo (feed [] gap (drop taken (now (piece .entry)))) (now (piece .entry)) (now (window .entry)) (now (output .entry)) (r .outcome) (now (window .exit)) (now (output .exit))
-        × Tested gap summed (drop taken (now (piece .entry))) (r .outcome) (r .summed) ⌝ }
+        × Tested gap (drop taken (now (piece .entry))) (r .outcome) (r .summed) ⌝ }
 {
     let rest = &piece[taken..];
     let passage = division::walk(false, rest);
     let walked = passage.walked;
-    let summed = summed + passage.summed;
+    let summed = passage.summed;
     match walked {
         Walked::Message(at, length, reach) => {
             let end = at + length;
@@ -201,21 +194,22 @@ fn in_place(
     }
 }
 
-// Turn after turn over the held bytes, until a message is settled, all of the piece is taken, or no byte is held and the piece can be divided.
+// Turn after turn over the held bytes, until a message is settled, all of the piece is taken, or no byte is held and the piece can be divided. At the end
+// of the stream there is no piece.
 fn divide(
     ended: bool,
     mut held: usize,
     mut gap: usize,
-    mut summed: usize,
     piece: &[u8],
     window: &mut [u8],
     output: &mut [u8],
 ) -> Counted
-    requires { ⌜ ((held ≤ 6136) × (6136 ≤ length (now window)) × (6136 ≤ length (now output)) × (gap + held + length (now piece) < 2 ^ 62)) × (summed + 6131 * (held + length (now piece)) < 2 ^ 63) × (ended ≡ true → length (now piece) ≡ 0) ⌝ }
+    requires { ⌜ ((held ≤ 6136) × (6136 ≤ length (now window)) × (6136 ≤ length (now output)) × (gap + held + length (now piece) ≤ 2 ^ 48)) × (ended ≡ true → length (now piece) ≡ 0) ⌝ }
     ensures { λ r. ⌜ CameTo (fed (now (piece .entry)) (scan ended (take held (now (window .entry))) gap)) (now (piece .entry)) (now (window .entry)) (now (output .entry)) (r .outcome) (now (window .exit)) (now (output .exit))
-        × Tested gap summed (take held (now (window .entry)) ++ now (piece .entry)) (r .outcome) (r .summed) ⌝ }
+        × Tested gap (take held (now (window .entry)) ++ now (piece .entry)) (r .outcome) (r .summed) ⌝ }
 {
     let mut taken = 0;
+    let mut summed = 0;
     loop {
         let passage = division::walk(ended, &window[..held]);
         let walked = passage.walked;
@@ -235,7 +229,10 @@ fn divide(
                 held = held - at;
                 gap = gap + at;
                 if held == 0 {
-                    return in_place(gap, taken, summed, piece, window, output);
+                    let rest = in_place(gap, taken, piece, window, output);
+                    let outcome = rest.outcome;
+                    summed = summed + rest.summed;
+                    return Counted { outcome, summed };
                 }
                 let more = pull(at, held, taken, piece, window);
                 if more == 0 {
@@ -296,12 +293,14 @@ fn reply_of(total: usize, ended: bool, outcome: Outcome, summed: usize) -> Reply
     }
 }
 
-// The reply, and zeros behind the bytes held.
-fn conclude(total: usize, ended: bool, outcome: Outcome, summed: usize, window: &mut [u8]) -> Reply
-    requires { ⌜ (replyTo total ended outcome summed .state .total < 2 ^ 64) × (replyTo total ended outcome summed .state .held ≤ length (now window)) ⌝ }
-    ensures { λ r. ⌜ (r ≡ replyTo total ended outcome summed) × (now (window .exit) ≡ take (r .state .held) (now (window .entry)) ++ replicate (length (now (window .entry)) - r .state .held) 0) ⌝ }
+// The reply, with what the call summed added to the count, and zeros behind the bytes held.
+fn conclude(state: State, ended: bool, counted: Counted, window: &mut [u8]) -> Reply
+    requires { ⌜ (state .summed + counted .summed < 2 ^ 64) × (replyTo (state .total) ended (counted .outcome) (state .summed + counted .summed) .state .total < 2 ^ 64) × (replyTo (state .total) ended (counted .outcome) (state .summed + counted .summed) .state .held ≤ length (now window)) ⌝ }
+    ensures { λ r. ⌜ (r ≡ replyTo (state .total) ended (counted .outcome) (state .summed + counted .summed)) × (now (window .exit) ≡ take (r .state .held) (now (window .entry)) ++ replicate (length (now (window .entry)) - r .state .held) 0) ⌝ }
 {
-    let reply = reply_of(total, ended, outcome, summed);
+    let outcome = counted.outcome;
+    let summed = state.summed as usize + counted.summed;
+    let reply = reply_of(state.total as usize, ended, outcome, summed);
     let left = reply.state.held as usize;
     octets::clear(&mut window[left..]);
     reply
@@ -327,11 +326,8 @@ pub fn feed(state: State, piece: &[u8], window: &mut [u8], output: &mut [u8]) ->
         Gate::Open => {
             let held = state.held as usize;
             let gap = state.gap as usize;
-            let summed = state.summed as usize;
-            let counted = divide(false, held, gap, summed, piece, window, output);
-            let outcome = counted.outcome;
-            let summed = counted.summed;
-            conclude(state.total as usize, false, outcome, summed, window)
+            let counted = divide(false, held, gap, piece, window, output);
+            conclude(state, false, counted, window)
         }
     }
 }
@@ -345,11 +341,8 @@ pub fn finish(state: State, window: &mut [u8], output: &mut [u8]) -> Reply
         Gate::Open => {
             let held = state.held as usize;
             let gap = state.gap as usize;
-            let summed = state.summed as usize;
-            let counted = divide(true, held, gap, summed, b"", window, output);
-            let outcome = counted.outcome;
-            let summed = counted.summed;
-            conclude(state.total as usize, true, outcome, summed, window)
+            let counted = divide(true, held, gap, b"", window, output);
+            conclude(state, true, counted, window)
         }
     }
 }

@@ -6,23 +6,23 @@ use lib.ListN.{length, take, drop}
 use lib.Seq.{length-take-le}
 use native.Mathlib.Omega.{arith}
 use Rattle.stream.proofs.TurnSteps.{Filling, filling-begins, filling-held, turn-inside, turn-ends, turn-message, turn-given, turn-within, turn-gap, turn-place-fits, turn-place, turn-pull-fits, turn-more, turn-on, turn-on-fits, turn-less}
-use Rattle.stream.proofs.TallySteps.{Tallied, tallied-begins, turn-adds, turn-tested, turn-place-room, turn-place-tested, turn-more-tested, turn-on-tallied}
+use Rattle.stream.proofs.TallySteps.{Tallied, tallied-begins, turn-adds, turn-tested, turn-more-tested, turn-place-adds, turn-place-tested, turn-on-tallied}
 use borrow.Author.Needs.{needs}
 use Rattle.stream.proofs.divide.Statement.{statement}
 use Rattle.stream.proofs.divide.Tie as tie
 
 abbrev Inv-loop : tie.InvT-loop
-Inv-loop ended held₀ gap₀ summed₀ piece window₀ output₀ taken₀ held gap summed window output taken =
-    Filling ended held₀ gap₀ window₀ output₀ piece held gap taken window output × Tallied gap₀ summed₀ (take held₀ window₀ ++ piece) gap summed (take held window ++ drop taken piece)
+Inv-loop ended held₀ gap₀ piece window₀ output₀ taken₀ summed₀ held gap window output taken summed =
+    Filling ended held₀ gap₀ window₀ output₀ piece held gap taken window output × Tallied gap₀ (take held₀ window₀ ++ piece) gap summed (take held window ++ drop taken piece)
 
 abbrev μ-loop : tie.MeasureT-loop
-μ-loop ended held₀ gap₀ summed₀ piece window₀ output₀ taken₀ held gap summed window output taken = length piece - taken
+μ-loop ended held₀ gap₀ piece window₀ output₀ taken₀ summed₀ held gap window output taken summed = length piece - taken
 
 loop-holds : tie.Need-loop-holds Inv-loop μ-loop
 loop-holds c =
     let start = c .before .before .before in
     let x = start .args in
-    (filling-begins (x .ended) (x .held) (x .gap) (x .window .now) (x .output .now) (x .piece .now) (start .pre .0 .0), tallied-begins (x .gap) (x .summed) (take (x .held) (x .window .now) ++ x .piece .now) _ refl)
+    (filling-begins (x .ended) (x .held) (x .gap) (x .window .now) (x .output .now) (x .piece .now) (start .pre .0 .0), tallied-begins (x .gap) (take (x .held) (x .window .now) ++ x .piece .now))
 
 slice-reshare-prefix-walk : tie.Need-slice-reshare-prefix-walk Inv-loop μ-loop
 slice-reshare-prefix-walk c =
@@ -46,7 +46,7 @@ add-summed c =
     let loop = c .before .before .before .loop in
     let start = c .before .before .before .before .before .before .before in
     let x = start .args in
-    turn-adds (x .ended) (x .held) (x .gap) (x .window .now) (x .output .now) (x .piece .now) (loop .held) (loop .gap) (loop .taken) (loop .window) (loop .output) (loop .inv .0) (start .pre .0) (x .summed) (loop .summed) (start .pre .1, start .pre .2) (loop .inv .1) _ (c .before .walk .ensures)
+    turn-adds (x .ended) (x .held) (x .gap) (x .window .now) (x .output .now) (x .piece .now) (loop .held) (loop .gap) (loop .taken) (loop .window) (loop .output) (loop .inv .0) (start .pre .0) (start .pre .1) (loop .summed) (loop .inv .1) _ (c .before .walk .ensures)
 
 enum-known-walked : tie.Need-enum-known-walked Inv-loop μ-loop
 enum-known-walked c = search needs
@@ -79,8 +79,8 @@ shift-requires c κs =
     let x = start .args in
     omega (arith, turn-ends (x .ended) (x .held) (x .gap) (x .window .now) (x .output .now) (x .piece .now) (loop .held) (loop .gap) (loop .taken) (loop .window) (loop .output) (loop .inv .0) (start .pre .0) _ (ap (λ r. r .walked) (c .before .before .before .before .before .before .before .before .before .before .walk .ensures)) _ _ _ (c .before .before .before .before .before .before .before .walked .given .1) .1)
 
-add-t26 : tie.Need-add-t26 Inv-loop μ-loop
-add-t26 c =
+add-t28 : tie.Need-add-t28 Inv-loop μ-loop
+add-t28 c =
     let loop = c .before .before .before .before .before .before .before .before .before .before .before .before .before .before .before .loop in
     let start = c .before .before .before .before .before .before .before .before .before .before .before .before .before .before .before .before .before .before .before in
     let x = start .args in
@@ -101,7 +101,7 @@ returns c =
     let loop = c .before .before .before .before .before .before .before .before .before .before .before .before .before .before .before .loop in
     let start = c .before .before .before .before .before .before .before .before .before .before .before .before .before .before .before .before .before .before .before in
     let x = start .args in
-    (turn-given (x .ended) (x .held) (x .gap) (x .window .now) (x .output .now) (x .piece .now) (loop .held) (loop .gap) (loop .taken) (loop .window) (loop .output) (loop .inv .0) (start .pre .0) _ (ap (λ r. r .walked) (c .before .before .before .before .before .before .before .before .before .before .before .before .before .walk .ensures)) _ _ _ (c .before .before .before .before .before .before .before .before .before .before .walked .given .1) _ _ (c .before .before .before .before .before .before .copy-part .ensures) (c .before .before .shift .ensures), turn-tested (x .ended) (x .held) (x .gap) (x .window .now) (x .output .now) (x .piece .now) (loop .held) (loop .gap) (loop .taken) (loop .window) (loop .output) (loop .inv .0) (start .pre .0) (x .summed) (loop .summed) (start .pre .1, start .pre .2) (loop .inv .1) _ (c .before .before .before .before .before .before .before .before .before .before .before .before .before .walk .ensures) _ _ _ (c .before .before .before .before .before .before .before .before .before .before .walked .given .1) _)
+    (turn-given (x .ended) (x .held) (x .gap) (x .window .now) (x .output .now) (x .piece .now) (loop .held) (loop .gap) (loop .taken) (loop .window) (loop .output) (loop .inv .0) (start .pre .0) _ (ap (λ r. r .walked) (c .before .before .before .before .before .before .before .before .before .before .before .before .before .walk .ensures)) _ _ _ (c .before .before .before .before .before .before .before .before .before .before .walked .given .1) _ _ (c .before .before .before .before .before .before .copy-part .ensures) (c .before .before .shift .ensures), turn-tested (x .ended) (x .held) (x .gap) (x .window .now) (x .output .now) (x .piece .now) (loop .held) (loop .gap) (loop .taken) (loop .window) (loop .output) (loop .inv .0) (start .pre .0) (start .pre .1) (loop .summed) (loop .inv .1) _ (c .before .before .before .before .before .before .before .before .before .before .before .before .before .walk .ensures) _ _ _ (c .before .before .before .before .before .before .before .before .before .before .walked .given .1) _)
 
 enum-known-walked-2 : tie.Need-enum-known-walked-2 Inv-loop μ-loop
 enum-known-walked-2 c = search needs
@@ -125,7 +125,14 @@ in-place-requires c κs =
     let loop = c .before .before .before .before .before .before .before .before .before .loop in
     let start = c .before .before .before .before .before .before .before .before .before .before .before .before .before in
     let x = start .args in
-    (turn-place-fits (x .ended) (x .held) (x .gap) (x .window .now) (x .output .now) (x .piece .now) (loop .held) (loop .gap) (loop .taken) (loop .window) (loop .output) (loop .inv .0) (start .pre .0) _ (ap (λ r. r .walked) (c .before .before .before .before .before .before .before .walk .ensures)) _ (c .before .before .before .before .walked2 .given .1), turn-place-room (x .ended) (x .held) (x .gap) (x .window .now) (x .output .now) (x .piece .now) (loop .held) (loop .gap) (loop .taken) (loop .window) (loop .output) (loop .inv .0) (start .pre .0) (x .summed) (loop .summed) (start .pre .1, start .pre .2) (loop .inv .1) _ (c .before .before .before .before .before .before .before .walk .ensures) _ (c .before .before .before .before .walked2 .given .1))
+    turn-place-fits (x .ended) (x .held) (x .gap) (x .window .now) (x .output .now) (x .piece .now) (loop .held) (loop .gap) (loop .taken) (loop .window) (loop .output) (loop .inv .0) (start .pre .0) _ (ap (λ r. r .walked) (c .before .before .before .before .before .before .before .walk .ensures)) _ (c .before .before .before .before .walked2 .given .1)
+
+add-summed-2 : tie.Need-add-summed-2 Inv-loop μ-loop
+add-summed-2 c =
+    let loop = c .before .before .before .before .before .before .before .before .before .before .before .before .before .before .before .loop in
+    let start = c .before .before .before .before .before .before .before .before .before .before .before .before .before .before .before .before .before .before .before in
+    let x = start .args in
+    turn-place-adds (x .ended) (x .held) (x .gap) (x .window .now) (x .output .now) (x .piece .now) (loop .held) (loop .gap) (loop .taken) (loop .window) (loop .output) (loop .inv .0) (start .pre .0) (start .pre .1) (loop .summed) (loop .inv .1) _ (c .before .before .before .before .before .before .before .before .before .before .before .before .before .walk .ensures) _ (c .before .before .before .before .before .before .before .before .before .before .walked2 .given .1) _ _ (c .before .before .before .before .before .in-place .ensures .1)
 
 same-length-3 : tie.Need-same-length-3 Inv-loop μ-loop
 same-length-3 c = search needs
@@ -135,10 +142,12 @@ same-length-4 c = search needs
 
 returns-2 : tie.Need-returns-2 Inv-loop μ-loop
 returns-2 c =
-    let loop = c .before .before .before .before .before .before .before .before .before .before .before .before .before .before .loop in
-    let start = c .before .before .before .before .before .before .before .before .before .before .before .before .before .before .before .before .before .before in
-    let x = start .args in
-    (turn-place (x .ended) (x .held) (x .gap) (x .window .now) (x .output .now) (x .piece .now) (loop .held) (loop .gap) (loop .taken) (loop .window) (loop .output) (loop .inv .0) (start .pre .0) _ (ap (λ r. r .walked) (c .before .before .before .before .before .before .before .before .before .before .before .before .walk .ensures)) _ (c .before .before .before .before .before .before .before .before .before .walked2 .given .1) (c .before .before .before .before .before .before .before .if1 .taken) (c .before .before .before .before .in-place .result .outcome) (c .before .before .before .before .in-place .last .1 .1 .1 .1 .0) (c .before .before .before .before .in-place .last .1 .1 .1 .1 .1 .0) (c .before .before .before .before .in-place .ensures .0), turn-place-tested (x .ended) (x .held) (x .gap) (x .window .now) (x .output .now) (x .piece .now) (loop .held) (loop .gap) (loop .taken) (loop .window) (loop .output) (loop .inv .0) (start .pre .0) (x .summed) (loop .summed) (start .pre .1, start .pre .2) (loop .inv .1) _ (c .before .before .before .before .before .before .before .before .before .before .before .before .walk .ensures) _ (c .before .before .before .before .before .before .before .before .before .walked2 .given .1) (c .before .before .before .before .before .before .before .if1 .taken) _ _ (c .before .before .before .before .in-place .ensures .1))
+    let loop = c .before .before .before .before .before .before .before .before .before .before .before .before .before .before .before .loop in
+    let start = c .before .before .before .before .before .before .before .before .before .before .before .before .before .before .before .before .before .before .before in
+    let x = start .args in (
+      turn-place (x .ended) (x .held) (x .gap) (x .window .now) (x .output .now) (x .piece .now) (loop .held) (loop .gap) (loop .taken) (loop .window) (loop .output) (loop .inv .0) (start .pre .0) _ (ap (λ r. r .walked) (c .before .before .before .before .before .before .before .before .before .before .before .before .before .walk .ensures)) _ (c .before .before .before .before .before .before .before .before .before .before .walked2 .given .1) (c .before .before .before .before .before .before .before .before .if1 .taken) (c .before .before .before .before .before .in-place .result .outcome) (c .before .before .before .before .before .in-place .last .1 .1 .1 .0) (c .before .before .before .before .before .in-place .last .1 .1 .1 .1 .0) (c .before .before .before .before .before .in-place .ensures .0),
+      turn-place-tested (x .ended) (x .held) (x .gap) (x .window .now) (x .output .now) (x .piece .now) (loop .held) (loop .gap) (loop .taken) (loop .window) (loop .output) (loop .inv .0) (start .pre .0) (start .pre .1) (loop .summed) (loop .inv .1) _ (c .before .before .before .before .before .before .before .before .before .before .before .before .before .walk .ensures) _ (c .before .before .before .before .before .before .before .before .before .before .walked2 .given .1) _ _ (c .before .before .before .before .before .in-place .ensures .1) (c .before .before .before .before .before .before .before .before .if1 .taken),
+    )
 
 pull-requires : tie.Need-pull-requires Inv-loop μ-loop
 pull-requires c κs =
@@ -162,7 +171,7 @@ returns-3 c =
     let loop = c .before .before .before .before .before .before .before .before .before .before .before .before .loop in
     let start = c .before .before .before .before .before .before .before .before .before .before .before .before .before .before .before .before in
     let x = start .args in
-    (turn-more (x .ended) (x .held) (x .gap) (x .window .now) (x .output .now) (x .piece .now) (loop .held) (loop .gap) (loop .taken) (loop .window) (loop .output) (loop .inv .0) (start .pre .0) _ (ap (λ r. r .walked) (c .before .before .before .before .before .before .before .before .before .before .walk .ensures)) _ (c .before .before .before .before .before .before .before .walked2 .given .1) (c .before .before .before .before .before .if1 .left) _ _ (c .before .before .before .pull .ensures) (c .if2 .taken), turn-more-tested (x .ended) (x .held) (x .gap) (x .window .now) (x .output .now) (x .piece .now) (loop .held) (loop .gap) (loop .taken) (loop .window) (loop .output) (loop .inv .0) (start .pre .0) (x .summed) (loop .summed) (start .pre .1, start .pre .2) (loop .inv .1) _ (c .before .before .before .before .before .before .before .before .before .before .walk .ensures) _ (c .before .before .before .before .before .before .before .walked2 .given .1) _ _)
+    (turn-more (x .ended) (x .held) (x .gap) (x .window .now) (x .output .now) (x .piece .now) (loop .held) (loop .gap) (loop .taken) (loop .window) (loop .output) (loop .inv .0) (start .pre .0) _ (ap (λ r. r .walked) (c .before .before .before .before .before .before .before .before .before .before .walk .ensures)) _ (c .before .before .before .before .before .before .before .walked2 .given .1) (c .before .before .before .before .before .if1 .left) _ _ (c .before .before .before .pull .ensures) (c .if2 .taken), turn-more-tested (x .ended) (x .held) (x .gap) (x .window .now) (x .output .now) (x .piece .now) (loop .held) (loop .gap) (loop .taken) (loop .window) (loop .output) (loop .inv .0) (start .pre .0) (start .pre .1) (loop .summed) (loop .inv .1) _ (c .before .before .before .before .before .before .before .before .before .before .walk .ensures) _ (c .before .before .before .before .before .before .before .walked2 .given .1) _ _)
 
 add-held : tie.Need-add-held Inv-loop μ-loop
 add-held c =
@@ -190,7 +199,7 @@ loop-again c =
     let loop = c .before .before .before .before .before .before .before .before .before .before .before .before .loop in
     let start = c .before .before .before .before .before .before .before .before .before .before .before .before .before .before .before .before in
     let x = start .args in
-    (turn-on (x .ended) (x .held) (x .gap) (x .window .now) (x .output .now) (x .piece .now) (loop .held) (loop .gap) (loop .taken) (loop .window) (loop .output) (loop .inv .0) (start .pre .0) _ (ap (λ r. r .walked) (c .before .before .before .before .before .before .before .before .before .before .walk .ensures)) _ (c .before .before .before .before .before .before .before .walked2 .given .1) (c .before .before .before .before .before .if1 .left) _ _ (c .before .before .before .pull .ensures) (c .if2 .left), turn-on-tallied (x .ended) (x .held) (x .gap) (x .window .now) (x .output .now) (x .piece .now) (loop .held) (loop .gap) (loop .taken) (loop .window) (loop .output) (loop .inv .0) (start .pre .0) (x .summed) (loop .summed) (start .pre .1, start .pre .2) (loop .inv .1) _ (c .before .before .before .before .before .before .before .before .before .before .walk .ensures) _ (c .before .before .before .before .before .before .before .walked2 .given .1) (c .before .before .before .before .before .if1 .left) _ _ (c .before .before .before .pull .ensures))
+    (turn-on (x .ended) (x .held) (x .gap) (x .window .now) (x .output .now) (x .piece .now) (loop .held) (loop .gap) (loop .taken) (loop .window) (loop .output) (loop .inv .0) (start .pre .0) _ (ap (λ r. r .walked) (c .before .before .before .before .before .before .before .before .before .before .walk .ensures)) _ (c .before .before .before .before .before .before .before .walked2 .given .1) (c .before .before .before .before .before .if1 .left) _ _ (c .before .before .before .pull .ensures) (c .if2 .left), turn-on-tallied (x .ended) (x .held) (x .gap) (x .window .now) (x .output .now) (x .piece .now) (loop .held) (loop .gap) (loop .taken) (loop .window) (loop .output) (loop .inv .0) (start .pre .0) (start .pre .1) (loop .summed) (loop .inv .1) _ (c .before .before .before .before .before .before .before .before .before .before .walk .ensures) _ (c .before .before .before .before .before .before .before .walked2 .given .1) (c .before .before .before .before .before .if1 .left) _ _ (c .before .before .before .pull .ensures))
 
 pub divide-spec : {M : Type 1} → statement M
 divide-spec =
@@ -208,7 +217,7 @@ divide-spec =
     sub-left
     copy-part-requires
     shift-requires
-    add-t26
+    add-t28
     same-length
     same-length-2
     returns
@@ -216,6 +225,7 @@ divide-spec =
     sub-held
     add-gap
     in-place-requires
+    add-summed-2
     same-length-3
     same-length-4
     returns-2

@@ -23,8 +23,7 @@ enum-told c = search needs
 divide-requires : tie.Need-divide-requires
 divide-requires c κs =
     let opened = c .before .before in
-    let a = allowed-fits _ _ _ _ (feed-allowed _ _ _ _ (sym (opened .before .before .checks .ensures) ∙ opened .enum-told .given .1)) in
-    (a .0, a .1, λ z. absurd (let y : _≡_ {A = ℕ} 0 1 = cc in omega arith))
+    (allowed-fits _ _ _ _ (feed-allowed _ _ _ _ (sym (opened .before .before .checks .ensures) ∙ opened .enum-told .given .1)), λ z. absurd (let y : _≡_ {A = ℕ} 0 1 = cc in omega arith))
 
 conclude-requires : tie.Need-conclude-requires
 conclude-requires c κs =
@@ -32,7 +31,7 @@ conclude-requires c κs =
     let opened = c .before .before .before .before .before .before .before .before in
     let x = c .before .before .before .before .before .before .before .before .before .before .before .before .before .before .args in
     let a = feed-allowed _ _ _ _ (sym (opened .before .before .checks .ensures) ∙ opened .enum-told .given .1) in
-    came-fits false (x .state .total) _ (x .piece .now) (x .window .now) (x .output .now) (divided .divide .result .outcome) _ _ _ (a .fits) (divided .divide .ensures .0)
+    came-fits false (x .state) _ (x .piece .now) (x .window .now) (x .output .now) (divided .divide .result .outcome) _ _ _ a (divided .divide .ensures .0) (divided .divide .ensures .1)
 
 returns : tie.Need-returns
 returns c =

@@ -2,7 +2,7 @@
 use mathlib.Core.Bool.{true}
 use mathlib.Core.List.{[]}
 use mathlib.Core.Path.{refl, sym, _∙_}
-use Rattle.stream.proofs.CallSteps.{feed-allowed, allowed-fits, came-fits, finish-refused, finish-goes}
+use Rattle.stream.proofs.CallSteps.{unended, feed-allowed, allowed-fits, came-fits, finish-refused, finish-goes}
 use borrow.Author.Needs.{needs}
 use Rattle.stream.proofs.finish.Statement.{statement}
 use Rattle.stream.proofs.finish.Tie as tie
@@ -25,8 +25,7 @@ slice-aggregate-divide c = search needs
 divide-requires : tie.Need-divide-requires
 divide-requires c κs =
     let opened = c .before .before .before in
-    let a = allowed-fits _ _ _ _ (feed-allowed _ _ _ _ (sym (opened .before .before .checks .ensures) ∙ opened .enum-told .given .1)) in
-    (a .0, a .1, λ z. refl)
+    (allowed-fits _ _ _ _ (feed-allowed _ _ _ _ (sym (opened .before .before .checks .ensures) ∙ opened .enum-told .given .1)), λ z. refl)
 
 conclude-requires : tie.Need-conclude-requires
 conclude-requires c κs =
@@ -34,7 +33,7 @@ conclude-requires c κs =
     let opened = c .before .before .before .before .before .before .before .before .before in
     let x = c .before .before .before .before .before .before .before .before .before .before .before .before .before .before .args in
     let a = feed-allowed _ _ _ _ (sym (opened .before .before .checks .ensures) ∙ opened .enum-told .given .1) in
-    came-fits true (x .state .total) _ [] (x .window .now) (x .output .now) (divided .divide .result .outcome) _ _ _ (a .fits) (divided .divide .ensures .0)
+    came-fits true (unended (x .state)) _ [] (x .window .now) (x .output .now) (divided .divide .result .outcome) _ _ _ a (divided .divide .ensures .0) (divided .divide .ensures .1)
 
 returns : tie.Need-returns
 returns c =

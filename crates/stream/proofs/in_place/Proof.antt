@@ -2,16 +2,16 @@
 use mathlib.Core.Path.{ap}
 use native.Mathlib.Omega.{arith}
 use Rattle.stream.proofs.TurnSteps.{place-end, place-message, place-rest, place-sums, place-given, place-open, place-gap, place-more}
-use Rattle.stream.proofs.TallySteps.{place-adds, place-tested, place-untested}
+use Rattle.stream.proofs.TallySteps.{place-tested, place-passed}
 use borrow.Author.Needs.{needs}
 use Rattle.stream.proofs.in_place.Statement.{statement}
 use Rattle.stream.proofs.in_place.Tie as tie
 
 sub-rest : tie.Need-sub-rest
-sub-rest c = c .before .before .before .pre .0 .0
+sub-rest c = c .before .before .before .pre .0
 
 part-rest-start : tie.Need-part-rest-start
-part-rest-start c = c .before .before .before .pre .0 .0
+part-rest-start c = c .before .before .before .pre .0
 
 part-rest-end : tie.Need-part-rest-end
 part-rest-end c = search needs
@@ -19,98 +19,96 @@ part-rest-end c = search needs
 walk-requires : tie.Need-walk-requires
 walk-requires c κs = search needs
 
-add-summed : tie.Need-add-summed
-add-summed c =
-    let start = c .before .before .before .before .before .before in
-    let x = start .args in
-    place-adds (x .gap) (x .taken) (x .summed) (x .piece .now) (start .pre .1) _ (c .before .walk .ensures)
-
 enum-known-walked : tie.Need-enum-known-walked
 enum-known-walked c = search needs
 
 add-end : tie.Need-add-end
 add-end c =
-    let start = c .before .before .before .before .before .before .before .before .before in
+    let start = c .before .before .before .before .before .before .before .before in
     let x = start .args in
-    place-sums (x .gap) (x .taken) (x .piece .now) (x .window .now) (x .output .now) (start .pre .0) _ (ap (λ r. r .walked) (c .before .before .before .before .walk .ensures)) _ _ _ (c .before .walked .given .1) .2
+    place-sums (x .gap) (x .taken) (x .piece .now) (x .window .now) (x .output .now) (start .pre) _ (ap (λ r. r .walked) (c .before .before .before .walk .ensures)) _ _ _ (c .before .walked .given .1) .2
 
 copy-part-requires : tie.Need-copy-part-requires
 copy-part-requires c κs =
-    let start = c .before .before .before .before .before .before .before .before .before .before in
+    let start = c .before .before .before .before .before .before .before .before .before in
     let x = start .args in
-    place-message (x .gap) (x .taken) (x .piece .now) (x .window .now) (x .output .now) (start .pre .0) _ (ap (λ r. r .walked) (c .before .before .before .before .before .walk .ensures)) _ _ _ (c .before .before .walked .given .1)
+    place-message (x .gap) (x .taken) (x .piece .now) (x .window .now) (x .output .now) (start .pre) _ (ap (λ r. r .walked) (c .before .before .before .before .walk .ensures)) _ _ _ (c .before .before .walked .given .1)
 
 copy-part-requires-2 : tie.Need-copy-part-requires-2
 copy-part-requires-2 c κs =
-    let start = c .before .before .before .before .before .before .before .before .before .before .before .before .before .before in
+    let start = c .before .before .before .before .before .before .before .before .before .before .before .before .before in
     let x = start .args in
-    place-rest (x .gap) (x .taken) (x .piece .now) (x .window .now) (x .output .now) (start .pre .0) _ (ap (λ r. r .walked) (c .before .before .before .before .before .before .before .before .before .walk .ensures)) _ _ _ (c .before .before .before .before .before .before .walked .given .1)
+    place-rest (x .gap) (x .taken) (x .piece .now) (x .window .now) (x .output .now) (start .pre) _ (ap (λ r. r .walked) (c .before .before .before .before .before .before .before .before .walk .ensures)) _ _ _ (c .before .before .before .before .before .before .walked .given .1)
+
+add-t24 : tie.Need-add-t24
+add-t24 c =
+    let start = c .before .before .before .before .before .before .before .before .before .before .before .before .before .before .before .before in
+    let x = start .args in
+    place-sums (x .gap) (x .taken) (x .piece .now) (x .window .now) (x .output .now) (start .pre) _ (ap (λ r. r .walked) (c .before .before .before .before .before .before .before .before .before .before .before .walk .ensures)) _ _ _ (c .before .before .before .before .before .before .before .before .before .walked .given .1) .0
 
 add-t25 : tie.Need-add-t25
 add-t25 c =
-    let start = c .before .before .before .before .before .before .before .before .before .before .before .before .before .before .before .before .before in
+    let start = c .before .before .before .before .before .before .before .before .before .before .before .before .before .before .before .before in
     let x = start .args in
-    place-sums (x .gap) (x .taken) (x .piece .now) (x .window .now) (x .output .now) (start .pre .0) _ (ap (λ r. r .walked) (c .before .before .before .before .before .before .before .before .before .before .before .before .walk .ensures)) _ _ _ (c .before .before .before .before .before .before .before .before .before .walked .given .1) .0
+    omega (arith, place-sums (x .gap) (x .taken) (x .piece .now) (x .window .now) (x .output .now) (start .pre) _ (ap (λ r. r .walked) (c .before .before .before .before .before .before .before .before .before .before .before .walk .ensures)) _ _ _ (c .before .before .before .before .before .before .before .before .before .walked .given .1) .1, place-end (x .gap) (x .taken) (x .piece .now) (x .window .now) (x .output .now) (start .pre) _ (ap (λ r. r .walked) (c .before .before .before .before .before .before .before .before .before .before .before .walk .ensures)) _ _ _ (c .before .before .before .before .before .before .before .before .before .walked .given .1))
 
-add-t26 : tie.Need-add-t26
-add-t26 c =
-    let start = c .before .before .before .before .before .before .before .before .before .before .before .before .before .before .before .before .before in
+sub-t26 : tie.Need-sub-t26
+sub-t26 c =
+    let start = c .before .before .before .before .before .before .before .before .before .before .before .before .before .before .before .before in
     let x = start .args in
-    omega (arith, place-sums (x .gap) (x .taken) (x .piece .now) (x .window .now) (x .output .now) (start .pre .0) _ (ap (λ r. r .walked) (c .before .before .before .before .before .before .before .before .before .before .before .before .walk .ensures)) _ _ _ (c .before .before .before .before .before .before .before .before .before .walked .given .1) .1, place-end (x .gap) (x .taken) (x .piece .now) (x .window .now) (x .output .now) (start .pre .0) _ (ap (λ r. r .walked) (c .before .before .before .before .before .before .before .before .before .before .before .before .walk .ensures)) _ _ _ (c .before .before .before .before .before .before .before .before .before .walked .given .1))
-
-sub-t27 : tie.Need-sub-t27
-sub-t27 c =
-    let start = c .before .before .before .before .before .before .before .before .before .before .before .before .before .before .before .before .before in
-    let x = start .args in
-    place-end (x .gap) (x .taken) (x .piece .now) (x .window .now) (x .output .now) (start .pre .0) _ (ap (λ r. r .walked) (c .before .before .before .before .before .before .before .before .before .before .before .before .walk .ensures)) _ _ _ (c .before .before .before .before .before .before .before .before .before .walked .given .1)
+    place-end (x .gap) (x .taken) (x .piece .now) (x .window .now) (x .output .now) (start .pre) _ (ap (λ r. r .walked) (c .before .before .before .before .before .before .before .before .before .before .before .walk .ensures)) _ _ _ (c .before .before .before .before .before .before .before .before .before .walked .given .1)
 
 enum-known-walked-2 : tie.Need-enum-known-walked-2
 enum-known-walked-2 c = search needs
 
 copy-part-requires-3 : tie.Need-copy-part-requires-3
 copy-part-requires-3 c κs =
-    let start = c .before .before .before .before .before .before .before .before .before .before in
+    let start = c .before .before .before .before .before .before .before .before .before in
     let x = start .args in
-    place-open (x .gap) (x .taken) (x .piece .now) (x .window .now) (x .output .now) (start .pre .0) _ (ap (λ r. r .walked) (c .before .before .before .before .before .walk .ensures)) _ (c .before .before .walked2 .given .1)
+    place-open (x .gap) (x .taken) (x .piece .now) (x .window .now) (x .output .now) (start .pre) _ (ap (λ r. r .walked) (c .before .before .before .before .walk .ensures)) _ (c .before .before .walked2 .given .1)
 
-add-t30 : tie.Need-add-t30
-add-t30 c =
-    let start = c .before .before .before .before .before .before .before .before .before .before .before .before .before in
+add-t29 : tie.Need-add-t29
+add-t29 c =
+    let start = c .before .before .before .before .before .before .before .before .before .before .before .before in
     let x = start .args in
-    place-gap (x .gap) (x .taken) (x .piece .now) (x .window .now) (x .output .now) (start .pre .0) _ (ap (λ r. r .walked) (c .before .before .before .before .before .before .before .before .walk .ensures)) _ (c .before .before .before .before .before .walked2 .given .1)
+    place-gap (x .gap) (x .taken) (x .piece .now) (x .window .now) (x .output .now) (start .pre) _ (ap (λ r. r .walked) (c .before .before .before .before .before .before .before .walk .ensures)) _ (c .before .before .before .before .before .walked2 .given .1)
 
-sub-t35 : tie.Need-sub-t35
-sub-t35 c =
-    let start = c .before .before .before .before .before .before .before .before .before .before .before .before .before in
+sub-t34 : tie.Need-sub-t34
+sub-t34 c =
+    let start = c .before .before .before .before .before .before .before .before .before .before .before .before in
     let x = start .args in
-    place-open (x .gap) (x .taken) (x .piece .now) (x .window .now) (x .output .now) (start .pre .0) _ (ap (λ r. r .walked) (c .before .before .before .before .before .before .before .before .walk .ensures)) _ (c .before .before .before .before .before .walked2 .given .1) .0
+    place-open (x .gap) (x .taken) (x .piece .now) (x .window .now) (x .output .now) (start .pre) _ (ap (λ r. r .walked) (c .before .before .before .before .before .before .before .walk .ensures)) _ (c .before .before .before .before .before .walked2 .given .1) .0
 
 same-length : tie.Need-same-length
 same-length c =
-    let start = c .before .before .before .before .before .before .before .before .before .before .before .before .before .before .before .before .before in
+    let start = c .before .before .before .before .before .before .before .before .before .before .before .before .before .before .before .before in
     let x = start .args in
-    place-given (x .gap) (x .taken) (x .piece .now) (x .window .now) (x .output .now) (start .pre .0) _ (ap (λ r. r .walked) (c .before .before .before .before .before .before .before .before .before .before .before .before .walk .ensures)) _ _ _ (c .before .before .before .before .before .before .before .before .before .walked .given .1) _ _ (c .before .before .before .before .before .before .copy-part .ensures) (c .before .before .copy-part2 .ensures) .same
+    place-given (x .gap) (x .taken) (x .piece .now) (x .window .now) (x .output .now) (start .pre) _ (ap (λ r. r .walked) (c .before .before .before .before .before .before .before .before .before .before .before .walk .ensures)) _ _ _ (c .before .before .before .before .before .before .before .before .before .walked .given .1) _ _ (c .before .before .before .before .before .before .copy-part .ensures) (c .before .before .copy-part2 .ensures) .same
 
 same-length-2 : tie.Need-same-length-2
 same-length-2 c = search needs
 
 returns : tie.Need-returns
 returns c =
-    let start = c .before .before .before .before .before .before .before .before .before .before .before .before .before .before .before .before .before in
-    let x = start .args in
-    (place-given (x .gap) (x .taken) (x .piece .now) (x .window .now) (x .output .now) (start .pre .0) _ (ap (λ r. r .walked) (c .before .before .before .before .before .before .before .before .before .before .before .before .walk .ensures)) _ _ _ (c .before .before .before .before .before .before .before .before .before .walked .given .1) _ _ (c .before .before .before .before .before .before .copy-part .ensures) (c .before .before .copy-part2 .ensures), place-tested (x .gap) (x .taken) (x .summed) (x .piece .now) (start .pre .1) _ (c .before .before .before .before .before .before .before .before .before .before .before .before .walk .ensures) _ _ _ (c .before .before .before .before .before .before .before .before .before .walked .given .1) _ _)
+    let start = c .before .before .before .before .before .before .before .before .before .before .before .before .before .before .before .before in
+    let x = start .args in (
+      place-given (x .gap) (x .taken) (x .piece .now) (x .window .now) (x .output .now) (start .pre) _ (ap (λ r. r .walked) (c .before .before .before .before .before .before .before .before .before .before .before .walk .ensures)) _ _ _ (c .before .before .before .before .before .before .before .before .before .walked .given .1) _ _ (c .before .before .before .before .before .before .copy-part .ensures) (c .before .before .copy-part2 .ensures),
+      place-tested (x .gap) (x .taken) (x .piece .now) (start .pre .0, start .pre .3) _ (c .before .before .before .before .before .before .before .before .before .before .before .walk .ensures) _ _ _ (c .before .before .before .before .before .before .before .before .before .walked .given .1) _ _,
+    )
 
 same-length-3 : tie.Need-same-length-3
 same-length-3 c =
-    let start = c .before .before .before .before .before .before .before .before .before .before .before .before .before in
+    let start = c .before .before .before .before .before .before .before .before .before .before .before .before in
     let x = start .args in
-    place-more (x .gap) (x .taken) (x .piece .now) (x .window .now) (x .output .now) (start .pre .0) _ (ap (λ r. r .walked) (c .before .before .before .before .before .before .before .before .walk .ensures)) _ (c .before .before .before .before .before .walked2 .given .1) _ (c .before .before .copy-part3 .ensures) .3
+    place-more (x .gap) (x .taken) (x .piece .now) (x .window .now) (x .output .now) (start .pre) _ (ap (λ r. r .walked) (c .before .before .before .before .before .before .before .walk .ensures)) _ (c .before .before .before .before .before .walked2 .given .1) _ (c .before .before .copy-part3 .ensures) .3
 
 returns-2 : tie.Need-returns-2
 returns-2 c =
-    let start = c .before .before .before .before .before .before .before .before .before .before .before .before .before in
-    let x = start .args in
-    (place-more (x .gap) (x .taken) (x .piece .now) (x .window .now) (x .output .now) (start .pre .0) _ (ap (λ r. r .walked) (c .before .before .before .before .before .before .before .before .walk .ensures)) _ (c .before .before .before .before .before .walked2 .given .1) _ (c .before .before .copy-part3 .ensures), place-untested (x .gap) (x .taken) (x .summed) (x .piece .now) (start .pre .1) _ (c .before .before .before .before .before .before .before .before .walk .ensures) _ (c .before .before .before .before .before .walked2 .given .1) _ _)
+    let start = c .before .before .before .before .before .before .before .before .before .before .before .before in
+    let x = start .args in (
+      place-more (x .gap) (x .taken) (x .piece .now) (x .window .now) (x .output .now) (start .pre) _ (ap (λ r. r .walked) (c .before .before .before .before .before .before .before .walk .ensures)) _ (c .before .before .before .before .before .walked2 .given .1) _ (c .before .before .copy-part3 .ensures),
+      place-passed (x .gap) (x .taken) (x .piece .now) (start .pre .0, start .pre .3) _ (c .before .before .before .before .before .before .before .walk .ensures) _ (c .before .before .before .before .before .walked2 .given .1) _ _,
+    )
 
 pub in-place-spec : {M : Type 1} → statement M
 in-place-spec =
@@ -120,18 +118,17 @@ in-place-spec =
     part-rest-start
     part-rest-end
     walk-requires
-    add-summed
     enum-known-walked
     add-end
     copy-part-requires
     copy-part-requires-2
+    add-t24
     add-t25
-    add-t26
-    sub-t27
+    sub-t26
     enum-known-walked-2
     copy-part-requires-3
-    add-t30
-    sub-t35
+    add-t29
+    sub-t34
     same-length
     same-length-2
     returns
