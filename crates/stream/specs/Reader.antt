@@ -86,9 +86,16 @@ summedAfter s xs d = s .summed + testedIn (settledSince (s .gap) d) xs
 abbrev pub fedCall : State → List ℕ → List ℕ → List ℕ → Fed → Call
 fedCall s w o p (given g m h q) =
     let taken = length p - length q in
-    record { answer = Message (length m) g taken; state = record { held = length h; gap = 0; total = s .total + taken; ended = 0; summed = summedAfter s (take (s .held) w ++ p) (given g m h q) }; window = laid h w; output = over m o }
+    let summed = summedAfter s (take (s .held) w ++ p) (given g m h q) in
+    record {
+      answer = Message (length m) g taken;
+      state = record { held = length h; gap = 0; total = s .total + taken; ended = 0; summed = summed };
+      window = laid h w;
+      output = over m o;
+    }
 fedCall s w o p (more g h) =
-    record { answer = NeedsMore; state = record { held = length h; gap = g; total = s .total + length p; ended = 0; summed = summedAfter s (take (s .held) w ++ p) (more g h) }; window = laid h w; output = o }
+    let summed = summedAfter s (take (s .held) w ++ p) (more g h) in
+    record { answer = NeedsMore; state = record { held = length h; gap = g; total = s .total + length p; ended = 0; summed = summed }; window = laid h w; output = o }
 
 abbrev pub feedBy : Gate → State → List ℕ → List ℕ → List ℕ → Call
 feedBy (Shut r) s p w o = refusal r s w o
@@ -100,9 +107,16 @@ feedCall s p w o = feedBy (feedChecked s (length w) (length o) (length p)) s p w
 -- finishing marks the end; at the end nothing is held, and the gap count stays for the calls after it
 abbrev pub finishedCall : State → List ℕ → List ℕ → Fed → Call
 finishedCall s w o (given g m h q) =
-    record { answer = Message (length m) g 0; state = record { held = length h; gap = 0; total = s .total; ended = 1; summed = summedAfter s (take (s .held) w) (given g m h q) }; window = laid h w; output = over m o }
+    let summed = summedAfter s (take (s .held) w) (given g m h q) in
+    record {
+      answer = Message (length m) g 0;
+      state = record { held = length h; gap = 0; total = s .total; ended = 1; summed = summed };
+      window = laid h w;
+      output = over m o;
+    }
 finishedCall s w o (more g h) =
-    record { answer = End g; state = record { held = length h; gap = g; total = s .total; ended = 1; summed = summedAfter s (take (s .held) w) (more g h) }; window = laid h w; output = o }
+    let summed = summedAfter s (take (s .held) w) (more g h) in
+    record { answer = End g; state = record { held = length h; gap = g; total = s .total; ended = 1; summed = summed }; window = laid h w; output = o }
 
 abbrev pub finishBy : Gate → State → List ℕ → List ℕ → Call
 finishBy (Shut r) s w o = refusal r s w o

@@ -12,6 +12,7 @@ use Rattle.stream.specs.declared.State.{State}
 use Rattle.stream.specs.declared.Answer.{Answer}
 use Rattle.stream.specs.declared.Answer.the-variants.{NeedsMore, Message as Answered, End}
 use Rattle.stream.specs.declared.Reply.{Reply}
+use Rattle.stream.specs.declared.Counted.{Counted}
 use Rattle.stream.specs.declared.Outcome.{Outcome}
 use Rattle.stream.specs.declared.Outcome.the-variants.{Message, Nothing}
 use Rattle.stream.specs.Feed.{Fed, given, more}
@@ -66,5 +67,11 @@ abbrev pub noMessage : Bool → ℕ → Answer
 noMessage ended g = cond ended (End g) NeedsMore
 
 abbrev pub replyTo : ℕ → Bool → Outcome → ℕ → Reply
-replyTo total ended (Message n g t h) summed = record { answer = Answered n g t; state = record { held = h; gap = 0; total = total + t; ended = boolByte ended; summed = summed } }
-replyTo total ended (Nothing g t h) summed = record { answer = noMessage ended g; state = record { held = h; gap = g; total = total + t; ended = boolByte ended; summed = summed } }
+replyTo total ended (Message n g t h) summed =
+    record { answer = Answered n g t; state = record { held = h; gap = 0; total = total + t; ended = boolByte ended; summed = summed } }
+replyTo total ended (Nothing g t h) summed =
+    record { answer = noMessage ended g; state = record { held = h; gap = g; total = total + t; ended = boolByte ended; summed = summed } }
+
+-- with what the call summed added to the state's count
+abbrev pub replyAfter : State → Bool → Counted → Reply
+replyAfter s ended c = replyTo (s .total) ended (c .outcome) (s .summed + c .summed)

@@ -15,7 +15,7 @@ ghost use Rattle.front.specs.Look.{need};
 ghost use Rattle.stream.specs.Scan.{scan};
 ghost use Rattle.stream.specs.Feed.{fed, feed};
 ghost use Rattle.stream.specs.Reader.{freshState, bad, feedChecked, feedCall, finishCall, Leaves};
-ghost use Rattle.stream.specs.Steps.{Pulled, CameTo, Tested, noMessage, replyTo};
+ghost use Rattle.stream.specs.Steps.{Pulled, CameTo, Tested, noMessage, replyTo, replyAfter};
 
 // The bytes held in the window, the gap bytes before them, all bytes taken, whether the end was announced (0, or anything else), and all bytes
 // run through the checksum.
@@ -295,8 +295,8 @@ fn reply_of(total: usize, ended: bool, outcome: Outcome, summed: usize) -> Reply
 
 // The reply, with what the call summed added to the count, and zeros behind the bytes held.
 fn conclude(state: State, ended: bool, counted: Counted, window: &mut [u8]) -> Reply
-    requires { ⌜ (state .summed + counted .summed < 2 ^ 64) × (replyTo (state .total) ended (counted .outcome) (state .summed + counted .summed) .state .total < 2 ^ 64) × (replyTo (state .total) ended (counted .outcome) (state .summed + counted .summed) .state .held ≤ length (now window)) ⌝ }
-    ensures { λ r. ⌜ (r ≡ replyTo (state .total) ended (counted .outcome) (state .summed + counted .summed)) × (now (window .exit) ≡ take (r .state .held) (now (window .entry)) ++ replicate (length (now (window .entry)) - r .state .held) 0) ⌝ }
+    requires { ⌜ (state .summed + counted .summed < 2 ^ 64) × (replyAfter state ended counted .state .total < 2 ^ 64) × (replyAfter state ended counted .state .held ≤ length (now window)) ⌝ }
+    ensures { λ r. ⌜ (r ≡ replyAfter state ended counted) × (now (window .exit) ≡ take (r .state .held) (now (window .entry)) ++ replicate (length (now (window .entry)) - r .state .held) 0) ⌝ }
 {
     let outcome = counted.outcome;
     let summed = state.summed as usize + counted.summed;
