@@ -1,5 +1,5 @@
 pub mod Skipping
-pub mod WorkSteps
+pub mod TestedSteps
 pub mod WalkSteps
 pub mod DivideSteps
 pub mod PlainSteps

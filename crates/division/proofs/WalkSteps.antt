@@ -24,7 +24,7 @@ use Rattle.division.specs.Walk.{further, wanting, walkedBy, walkOf, sett
 use Rattle.division.specs.Work.{testedIn}
 use Rattle.division.specs.Steps.{Skipped, wanted, Stepped}
 use Rattle.division.proofs.Skipping.{skipped-over}
-use Rattle.division.proofs.WorkSteps.{tested-next}
+use Rattle.division.proofs.TestedSteps.{tested-next}
 
 module _ (ended : Bool) (s : List ℕ) (reach at : ℕ) (l : at < length s) where
   pub walk-at : walkOf ended (drop at s) at reach ≡ walkedBy ended (claim (drop at s)) (drop at s) at reach (λ t. walkOf ended (drop (at + 1) s) (at + 1) t)

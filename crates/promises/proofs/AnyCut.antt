@@ -1,10 +1,10 @@
 -- A run of calls from a fresh state, over any pieces, gives the messages and gaps of the division of the uncut stream and its last gap; no call
 -- is refused, and so many calls as pieces and messages, and one more, come to the end. Assumes nothing.
 use Prim.Native.Nat.{ℕ, zero, suc, _+_, _-_, _≤_, _<_}
-use mathlib.Core.Path.{_≡_, refl, sym, ap, ap₂, _∙_}
+use mathlib.Core.Path.{_≡_, refl, ap, ap₂, _∙_}
 use mathlib.Core.Bool.{Bool, true, false}
 use mathlib.Core.Logic.{⊎-elim}
-use mathlib.Core.List.{List, [], _∷_, _++_, append-assoc, append-nil}
+use mathlib.Core.List.{List, [], _∷_, _++_, append-nil}
 use native.Mathlib.Omega.{arith}
 use lib.ListN.{length, take, drop, replicate, length-append, length-drop, length-replicate}
 use lib.Seq.{take-at, length-take-le}
@@ -21,7 +21,7 @@ use Rattle.promises.specs.Calls.{Made, offer, afterFeed, afterFinish, ca
 use Rattle.stream.proofs.ScanLaws.{ScanFact, scan-fact, Passed}
 use Rattle.stream.proofs.Cases.{Small, Bad, finish-cases, feed-cases}
 use Rattle.promises.proofs.WorkBound.{work-at-most}
-use Rattle.promises.proofs.WorkLeft.{FedDone, feed-done, FinishDone, finish-done}
+use Rattle.promises.proofs.WorkLeft.{FedWorks, feed-works, FinishWorks, finish-works}
 use Rattle.promises.proofs.RunRight.{thenFed, thenFinished, run, run-right, joined-offer}
 
 -- ---- what a feed keeps: the bytes add up, and the held ones fit the window
@@ -109,12 +109,9 @@ not-ended : (ps : List (List ℕ)) → NotEnded 0 ps
 not-ended [] = tt
 not-ended (p ∷ ps) = refl
 
--- the bytes that are still to be divided, and all bytes summed once they are
-abbrev ahead : State → List ℕ → List (List ℕ) → List ℕ
-ahead s w ps = take (s .held) w ++ joined ps
-
-abbrev summedInAll : State → List ℕ → List (List ℕ) → ℕ
-summedInAll s w ps = s .summed + workOf (ahead s w ps)
+-- all bytes summed once the bytes held and the pieces to come are divided
+abbrev inAll : State → List ℕ → List (List ℕ) → ℕ
+inAll s w ps = s .summed + workOf (take (s .held) w ++ joined ps)
 
 module _ (outputs : ℕ → List ℕ) (large : (i : ℕ) → room ≤ length (outputs i)) where
   record Right (made : Made) (list : Run) (summed : ℕ) : Type 0 where
@@ -122,8 +119,8 @@ module _ (outputs : ℕ → List ℕ) (large : (i : ℕ) → room ≤ length (ou
     sum : Finished (made .run) → made .state .summed ≡ summed
 
   abbrev CallsRight : ℕ → Type 0
-  CallsRight n = (s : State) (w : List ℕ) (ps : List (List ℕ)) → Safe s w → NotEnded (s .ended) ps → s .total + length (joined ps) ≤ limit → summedInAll s w ps ≤ mostSummed
-      → Right (calls n outputs s w ps) (run n (take (s .held) w) (s .gap) ps) (summedInAll s w ps)
+  CallsRight n = (s : State) (w : List ℕ) (ps : List (List ℕ)) → Safe s w → NotEnded (s .ended) ps → s .total + length (joined ps) ≤ limit → inAll s w ps ≤ mostSummed
+      → Right (calls n outputs s w ps) (run n (take (s .held) w) (s .gap) ps) (inAll s w ps)
 
   module _ (s : State) (w : List ℕ) (h : Safe s w) where
     length-held : length (take (s .held) w) ≡ s .held
@@ -142,46 +139,38 @@ module _ (outputs : ℕ → List ℕ) (large : (i : ℕ) → room ≤ length (ou
   calls-run zero s w ps h e l u = record { run = refl; sum = λ z. absurd z }
   calls-run (suc n) s w [] h e l u =
       let o = outputs n in
-      rw (finish-goes s w o h (large n)) (go (finish (take (s .held) w) (s .gap)) (finish-kept s w h) (finish-done (take (s .held) w) (s .gap)) (calls-run n))
+      rw (append-nil (take (s .held) w), finish-goes s w o h (large n)) (go (finish (take (s .held) w) (s .gap)) (finish-kept s w h) (finish-works (take (s .held) w) (s .gap)) (rw (append-nil (take (s .held) w)) at u) (calls-run n))
     where
-      all : workOf (take (s .held) w ++ []) ≡ workOf (take (s .held) w)
-      all = ap workOf (append-nil (take (s .held) w))
-
-      go : (f : Fed) → Kept f [] (s .gap + s .held) → FinishDone (take (s .held) w) (s .gap) f → CallsRight n
-          → Right (afterFinish (calls n outputs) (finishedCall s w (outputs n) f .answer) (finishedCall s w (outputs n) f)) (thenFinished (run n) f) (s .summed + workOf (take (s .held) w ++ []))
-      go (given g m r q) k d ih =
+      go : (f : Fed) → Kept f [] (s .gap + s .held) → FinishWorks (take (s .held) w) (s .gap) f → s .summed + workOf (take (s .held) w) ≤ mostSummed → CallsRight n
+          → Right (afterFinish (calls n outputs) (finishedCall s w (outputs n) f .answer) (finishedCall s w (outputs n) f)) (thenFinished (run n) f) (s .summed + workOf (take (s .held) w))
+      go (given g m r q) k d u ih =
           let after : State = finishedCall s w (outputs n) (given g m r q) .state in
           let left : workOf (take (length r) (laid r w) ++ []) ≡ workOf r = ap workOf (append-nil (take (length r) (laid r w)) ∙ take-laid r w) in
           let safe : Safe after (laid r w)
-          = record { fits = k .1; sums = omega arith; below = omega arith; few = omega (arith, d .1, all); window = omega (arith, length-laid r w (omega arith)) } in
-          let i = ih after (laid r w) [] safe tt (omega arith) (omega (arith, d .1, all, left)) in
-          record { run = rw take-over (ap (gave g m) (rw take-laid at (i .run))); sum = λ z. omega (arith, i .sum z, d .1, all, left) }
-      go (more g r) k d ih = record { run = refl; sum = λ z. omega (arith, d .1, all) }
+          = record { fits = k .1; sums = omega arith; below = omega arith; few = omega arith; window = omega (arith, length-laid r w (omega arith)) } in
+          let i = ih after (laid r w) [] safe tt (omega arith) (omega (arith, left)) in
+          record { run = rw take-over (ap (gave g m) (rw take-laid at (i .run))); sum = λ z. omega (arith, i .sum z, left) }
+      go (more g r) k d u ih = record { run = refl; sum = λ z. omega arith }
   calls-run (suc n) s w (p ∷ ps) h e l u =
       let o = outputs n in
-      rw (feed-goes s w o h (large n) p e (omega (arith, length-append p (joined ps)))) (go (feed (take (s .held) w) (s .gap) p) (feed-kept s w h p) (feed-done (take (s .held) w) p (s .gap)) (calls-run n))
+      rw (feed-goes s w o h (large n) p e (omega (arith, length-append p (joined ps)))) (go (feed (take (s .held) w) (s .gap) p) (feed-kept s w h p) (feed-works (take (s .held) w) p (joined ps) (s .gap)) (calls-run n))
     where
-      all : workOf (take (s .held) w ++ p ++ joined ps) ≡ workOf (take (s .held) w ++ (p ++ joined ps))
-      all = ap workOf (append-assoc (take (s .held) w) p (joined ps))
-
-      go : (f : Fed) → Kept f p (s .gap + s .held) → FedDone (take (s .held) w ++ p) (s .gap) f → CallsRight n
+      go : (f : Fed) → Kept f p (s .gap + s .held) → FedWorks (take (s .held) w) p (joined ps) (s .gap) f → CallsRight n
           → Right (afterFeed (calls n outputs) p ps (fedCall s w (outputs n) p f .answer) (fedCall s w (outputs n) p f)) (thenFed (run n) ps f) (s .summed + workOf (take (s .held) w ++ (p ++ joined ps)))
       go (given g m r q) k d ih =
           let after : State = fedCall s w (outputs n) p (given g m r q) .state in
-          let works = d .1 .works (joined ps) in
-          let left : workOf (take (length r) (laid r w) ++ joined (offer q ps)) ≡ workOf (r ++ q ++ joined ps) = ap₂ (λ i j. workOf (i ++ j)) (take-laid r w) (joined-offer q ps) ∙ ap workOf (sym (append-assoc r q (joined ps))) in
+          let left : workOf (take (length r) (laid r w) ++ joined (offer q ps)) ≡ workOf (r ++ (q ++ joined ps)) = ap₂ (λ i j. workOf (i ++ j)) (take-laid r w) (joined-offer q ps) in
           let safe : Safe after (laid r w)
-          = record { fits = k .1; sums = omega arith; below = omega (arith, length-append p (joined ps)); few = omega (arith, works, all); window = omega (arith, length-laid r w (omega arith)) } in
-          let i = ih after (laid r w) (offer q ps) safe (not-ended (offer q ps)) (omega (arith, length-append p (joined ps), length-append q (joined ps), ap length (joined-offer q ps))) (omega (arith, works, all, left)) in
-          rw (k .4) (record { run = rw take-over (ap (gave g m) (rw take-laid at (i .run))); sum = λ z. omega (arith, i .sum z, works, all, left) })
+          = record { fits = k .1; sums = omega arith; below = omega (arith, length-append p (joined ps)); few = omega arith; window = omega (arith, length-laid r w (omega arith)) } in
+          let i = ih after (laid r w) (offer q ps) safe (not-ended (offer q ps)) (omega (arith, length-append p (joined ps), length-append q (joined ps), ap length (joined-offer q ps))) (omega (arith, left)) in
+          rw (k .4) (record { run = rw take-over (ap (gave g m) (rw take-laid at (i .run))); sum = λ z. omega (arith, i .sum z, left) })
       go (more g r) k d ih =
           let after : State = fedCall s w (outputs n) p (more g r) .state in
-          let works = d .1 .works (joined ps) in
           let left : workOf (take (length r) (laid r w) ++ joined ps) ≡ workOf (r ++ joined ps) = ap (λ i. workOf (i ++ joined ps)) (take-laid r w) in
           let safe : Safe after (laid r w)
-          = record { fits = k .1; sums = omega arith; below = omega (arith, length-append p (joined ps)); few = omega (arith, works, all); window = omega (arith, length-laid r w (omega arith)) } in
-          let i = ih after (laid r w) ps safe (not-ended ps) (omega (arith, length-append p (joined ps))) (omega (arith, works, all, left)) in
-          record { run = rw take-laid at (i .run); sum = λ z. i .sum z ∙ omega (arith, works, all, left) }
+          = record { fits = k .1; sums = omega arith; below = omega (arith, length-append p (joined ps)); few = omega arith; window = omega (arith, length-laid r w (omega arith)) } in
+          let i = ih after (laid r w) ps safe (not-ended ps) (omega (arith, length-append p (joined ps))) (omega (arith, left)) in
+          record { run = rw take-laid at (i .run); sum = λ z. omega (arith, i .sum z, left) }
 
   module _ (ps : List (List ℕ)) (w : List ℕ) (window : room ≤ length w) (below : length (joined ps) ≤ limit) (n : ℕ) where
     from-fresh : Right (calls n outputs freshState w ps) (run n [] 0 ps) (0 + workOf (joined ps))

@@ -12,43 +12,52 @@ use borrow.Author.Tests.{leb-true}
 use Rattle.octets.specs.Begins.{fit}
 use Rattle.octets.specs.declared.Fit.{Fit}
 use Rattle.octets.specs.declared.Fit.the-variants.{Whole, Part, Bad}
+use Rattle.octets.proofs.Begins.{Fits, fit-common, common-take}
 use Rattle.macm.specs.declared.Form.the-variants.{New, Old}
 use Rattle.macm.specs.Form.{newSync, oldSync}
 use Rattle.macm.specs.Check.{covered}
 use Rattle.front.specs.declared.Claim.{Claim}
 use Rattle.front.specs.declared.Claim.the-variants.{Nothing, AtLeast, Long}
-use Rattle.front.specs.Claim.{counted, claimBy, claim}
+use Rattle.front.specs.Claim.{claimBy, claim}
 use Rattle.front.specs.Look.{Look, unsettled, gap, message, look, testedBy, tested}
 use Rattle.front.proofs.Bounds.{ClaimFact, claim-fact, LookFact, look-fact, most, tested-most}
 use Rattle.division.specs.Division.{lengthOf, stands}
 use Rattle.division.specs.Work.{workOf}
-use Rattle.promises.specs.Sync.{SyncAt}
+use Rattle.promises.specs.Work.{SyncAt}
 use Rattle.promises.proofs.SyncApart.{sync-apart}
 use Rattle.promises.proofs.WorkSteps.{work-nil, work-at}
 
--- it is tested where a sync string stands, and a message has 15 bytes or more
+-- ---- it is tested where a sync string stands, and a message has 15 bytes or more
 abbrev Tried : List ℕ → Type 0
 Tried xs = (tested xs ≡ 0) ⊎ (SyncAt xs 0 × (15 ≤ length xs))
 
-tried : (xs : List ℕ) → Tried xs
-unfolding tested testedBy claim claimBy
-tried xs = go (fit newSync xs) refl (fit oldSync xs) refl (claim-fact xs)
-  where
-    here : SyncAt xs 0 → (c : Claim) → claim xs ≡ c → ClaimFact xs c → (testedBy c xs ≡ 0) ⊎ (SyncAt xs 0 × (15 ≤ length xs))
-    here s Nothing e f = inl refl
-    here s (AtLeast k) e f = inl refl
-    here s (Long n) e f = test (leb n (length xs)) refl
-      where
-        test : (t : Bool) → leb n (length xs) ≡ t → (cond t (covered n) 0 ≡ 0) ⊎ (SyncAt xs 0 × (15 ≤ length xs))
-        test true l = inr (s, omega (arith, leb-true n (length xs) l))
-        test false l = inl refl
+module _ (xs : List ℕ) where
+  clash : (k n : ℕ) → AtLeast k ≡ Long n → ⊥
+  clash k n e = let y : _≡_ {A = ℕ} 0 1 = cc in omega arith
 
-    go : (a : Fit) → fit newSync xs ≡ a → (b : Fit) → fit oldSync xs ≡ b → ClaimFact xs (claimBy a b xs) → (testedBy (claimBy a b xs) xs ≡ 0) ⊎ (SyncAt xs 0 × (15 ≤ length xs))
-    go Whole p b q f = here (inl (rw p)) (counted (New 0 0) xs) (rw p) f
-    go Part p b q f = inl refl
-    go Bad p Whole q f = here (inr (rw q)) (counted (Old 0) xs) (rw (p, q)) f
-    go Bad p Part q f = inl refl
-    go Bad p Bad q f = inl refl
+  long-sync : (n : ℕ) → claim xs ≡ Long n → SyncAt xs 0
+  unfolding claim claimBy
+  long-sync n = go (fit newSync xs) (fit oldSync xs) (fit-common newSync xs) (fit-common oldSync xs)
+    where
+      go : (a b : Fit) → Fits newSync xs a → Fits oldSync xs b → claimBy a b xs ≡ Long n → SyncAt xs 0
+      go Whole b p q e = (New 0 0, rw p at (common-take newSync xs))
+      go Part b p q e = absurd (clash (suc (length xs)) n e)
+      go Bad Whole p q e = (Old 0, rw q at (common-take oldSync xs))
+      go Bad Part p q e = absurd (clash (suc (length xs)) n e)
+      go Bad Bad p q e = absurd (let y : _≡_ {A = ℕ} 0 1 = cc in omega arith)
+
+  tried : Tried xs
+  unfolding tested testedBy
+  tried = go (claim xs) refl (claim-fact xs)
+    where
+      go : (c : Claim) → claim xs ≡ c → ClaimFact xs c → (testedBy c xs ≡ 0) ⊎ (SyncAt xs 0 × (15 ≤ length xs))
+      go Nothing e f = inl refl
+      go (AtLeast k) e f = inl refl
+      go (Long n) e f = test (leb n (length xs)) refl
+        where
+          test : (t : Bool) → leb n (length xs) ≡ t → (cond t (covered n) 0 ≡ 0) ⊎ (SyncAt xs 0 × (15 ≤ length xs))
+          test true l = inr (long-sync n e, omega (arith, leb-true n (length xs) l))
+          test false l = inl refl
 
 -- none is tested one or two bytes on from one that is
 next-free : (xs : List ℕ) (k : ℕ) → SyncAt xs 0 → 0 < k → k < 3 → tested (drop k xs) ≡ 0

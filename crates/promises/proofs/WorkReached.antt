@@ -15,19 +15,19 @@ use Rattle.macm.specs.Check.{agrees}
 use Rattle.front.specs.declared.Claim.the-variants.{Long}
 use Rattle.front.specs.Claim.{counted, claimBy, claim}
 use Rattle.front.specs.Look.{judged, lookBy, look, testedBy, tested}
-use Rattle.division.specs.Division.{lengthOf, stands}
-use Rattle.division.specs.Work.{workFrom, workOf}
+use Rattle.division.specs.Division.{lengthOf, stands, divided, divideFrom, divide}
+use Rattle.division.specs.Work.{testedIn, workIn, workOf}
 use Rattle.samples.specs.Table.{A, B}
-use Rattle.promises.specs.Crowded.{crowded}
+use Rattle.promises.specs.Work.{crowded}
 use Rattle.promises.proofs.WorkSteps.{work-nil, work-gap}
 
 -- ---- the samples: S12, the first three letters of a sync string and then A; A and then B
 pub work-of-S12 : workOf (0x4D ∷ 0x41 ∷ 0x43 ∷ A) ≡ 11
-unfolding workOf workFrom stands lengthOf tested testedBy look lookBy judged claim claimBy counted fit agrees checksumFrom
+unfolding workOf workIn testedIn divide divideFrom divided stands lengthOf tested testedBy look lookBy judged claim claimBy counted fit agrees checksumFrom
 work-of-S12 = refl
 
 pub work-of-A-then-B : workOf (A ++ B) ≡ 21
-unfolding workOf workFrom stands lengthOf tested testedBy look lookBy judged claim claimBy counted fit agrees checksumFrom
+unfolding workOf workIn testedIn divide divideFrom divided stands lengthOf tested testedBy look lookBy judged claim claimBy counted fit agrees checksumFrom
 work-of-A-then-B = refl
 
 -- ---- the crowded stream

@@ -1,11 +1,10 @@
 pub mod Joined
 pub mod Fields
 pub mod Again
-pub mod Sync
-pub mod Crowded
 pub mod Run
 pub mod Given
 pub mod Reason
+pub mod Work
 pub mod Range
 pub mod Numbers
 pub mod Calls

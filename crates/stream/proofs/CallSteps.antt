@@ -10,7 +10,7 @@ use lib.Seq.{length-take-le}
 use lib.Dec.{ltb, eqb}
 use borrow.Author.Tests.{lt-ltb, le-ltb, ltb-true, ltb-false, eq-eqb, ne-eqb}
 use Rattle.division.specs.Work.{testedIn}
-use Rattle.division.proofs.WorkSteps.{tested-most-in}
+use Rattle.division.proofs.TestedSteps.{tested-most-in}
 use Rattle.refusal.specs.declared.Refusal.{Refusal}
 use Rattle.refusal.specs.declared.Refusal.the-variants.{SmallBuffer, BadState, Ended, TooMuch}
 use Rattle.stream.specs.declared.State.{State}

@@ -13,7 +13,7 @@ use Rattle.division.specs.declared.Walked.{Walked}
 use Rattle.division.specs.declared.Walked.the-variants.{Message as AtMessage, Unsettled}
 use Rattle.division.specs.Walk.{walkOf, settled, wholeWalk}
 use Rattle.division.specs.Work.{testedIn}
-use Rattle.division.proofs.WorkSteps.{tested-split, tested-most-in}
+use Rattle.division.proofs.TestedSteps.{tested-split, tested-most-in}
 use Rattle.stream.specs.declared.Outcome.{Outcome}
 use Rattle.stream.specs.declared.Outcome.the-variants.{Message, Nothing}
 use Rattle.stream.specs.Scan.{got, stop, scan}

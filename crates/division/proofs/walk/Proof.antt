@@ -6,7 +6,7 @@ use lib.ListN.{length, drop}
 use Rattle.division.specs.Walk.{walkOf}
 use Rattle.division.specs.Work.{testedIn}
 use Rattle.division.proofs.WalkSteps.{stepped-on, stepped-stop, walk-end, walk-made}
-use Rattle.division.proofs.WorkSteps.{wrapped, none-tested}
+use Rattle.division.proofs.TestedSteps.{wrapped, none-tested}
 use borrow.Author.Needs.{needs}
 use Rattle.division.proofs.walk.Statement.{statement}
 use Rattle.division.proofs.walk.Tie as tie

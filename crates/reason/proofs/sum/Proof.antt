@@ -25,14 +25,14 @@ shared-slice-read-residue c = search needs
 
 returns : tie.Need-returns
 returns c =
-    let a = c .before .before .before .before .before .args in
-    let z = residue-last (a .bytes .now) (a .n) _ (c .before .before .before .before .before .pre .0) (c .before .before .before .before .before .pre .1) (ap (λ r. r .value) (c .before .before .checksum .ensures)) in
+    let a = c .before .before .before .before .before .before .args in
+    let z = residue-last (a .bytes .now) (a .n) _ (c .before .before .before .before .before .before .pre .0) (c .before .before .before .before .before .before .pre .1) (ap (λ r. r .value) (c .before .before .before .checksum .ensures)) in
     rw (← z) (sum-given (a .n) _ (c .if1 .taken))
 
 returns-2 : tie.Need-returns-2
 returns-2 c =
-    let a = c .before .before .before .before .before .args in
-    let z = residue-last (a .bytes .now) (a .n) _ (c .before .before .before .before .before .pre .0) (c .before .before .before .before .before .pre .1) (ap (λ r. r .value) (c .before .before .checksum .ensures)) in
+    let a = c .before .before .before .before .before .before .args in
+    let z = residue-last (a .bytes .now) (a .n) _ (c .before .before .before .before .before .before .pre .0) (c .before .before .before .before .before .before .pre .1) (ap (λ r. r .value) (c .before .before .before .checksum .ensures)) in
     rw (← z) (sum-off (a .n) _ (c .if1 .left))
 
 pub sum-spec : {M : Type 1} → statement M
