@@ -27,6 +27,7 @@ pub mod Room
 pub mod PlainSame
 pub mod Checked
 pub mod Left
+pub mod Tested
 pub mod SyncApart
 pub mod WorkSteps
 pub mod WorkBound
