@@ -7,6 +7,7 @@ pub struct State {
     pub gap: u64,
     pub total: u64,
     pub ended: u64,
+    pub summed: u64,
 }
 
 pub const NEEDS_MORE: u64 = 0;

@@ -2,7 +2,7 @@
 //! of the call, so that a test can see that nothing stays untried: a refusal's number, or ACCEPTED with the kind of answer added.
 
 use crate::{board, compare, expected, run, Twin, Verdict};
-use reader::{Form, LONGEST, STREAM_BYTES};
+use reader::{Form, LONGEST, STREAM_BYTES, SUMMED_BYTES};
 use streams::Random;
 
 pub const ACCEPTED: u64 = 100;
@@ -229,7 +229,12 @@ fn state(random: &mut Random, held: u64) -> board::State {
         1 => random.number() % (total - held + 1),
         _ => (total - held).min(random.below(20) as u64),
     };
-    let mut state = board::State { held, gap, total, ended: 0 };
+    let summed = match random.below(4) {
+        0 => SUMMED_BYTES - random.pick(&[0, 0, 1, 10, 11, 6131]),
+        1 => random.below(9) as u64,
+        _ => random.number() % SUMMED_BYTES,
+    };
+    let mut state = board::State { held, gap, total, ended: 0, summed };
     match random.below(40) {
         0 => state.held = random.pick(&[LONGEST as u64 + 1, u64::MAX, 1 << 32, 1 << 48]),
         1 => state.total = STREAM_BYTES + 1,
@@ -237,7 +242,9 @@ fn state(random: &mut Random, held: u64) -> board::State {
         3 => state.gap = u64::MAX - random.below(7000) as u64,
         4 => state.total = random.edgy(),
         5 => (state.gap, state.total) = (u64::MAX - held, u64::MAX),
-        6 => state = board::State { held: random.edgy(), gap: random.edgy(), total: random.edgy(), ended: 0 },
+        6 => state = board::State { held: random.edgy(), gap: random.edgy(), total: random.edgy(), ended: 0, summed: random.edgy() },
+        7 => state.summed = random.pick(&[SUMMED_BYTES + 1, 1 << 61, u64::MAX]),
+        8 => state.summed = random.edgy(),
         _ => (),
     }
     if random.once_in(12) {

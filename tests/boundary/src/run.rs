@@ -25,6 +25,8 @@ pub fn run(stream: &[u8], pieces: &[usize], window: Vec<u8>, output: Vec<u8>) ->
     same("the end once more", twin.finish()?, board::Answer { kind: board::END, gap: gave.rest, ..Default::default() })?;
     same("the state after the end once more", twin.state, ended)?;
     same("total", twin.state.total, stream.len() as u64)?;
+    same("bytes summed, over the division", twin.state.summed, reader::work(stream))?;
+    same("bytes summed within the bound", twin.state.summed <= reader::most_work(stream.len()), true)?;
     owed(stream, pieces.len(), &gave)
 }
 

@@ -13,7 +13,8 @@ pub struct Twin {
 
 impl Twin {
     pub fn new(state: board::State, window: Vec<u8>, output: Vec<u8>) -> Twin {
-        let model = reader::State { held: state.held, gap: state.gap, total: state.total, ended: state.ended != 0 };
+        let board::State { held, gap, total, ended, summed } = state;
+        let model = reader::State { held, gap, total, ended: ended != 0, summed };
         Twin { state, window: Lent::new(&window), output: Lent::new(&output), model, model_window: window, model_output: output }
     }
 
@@ -41,10 +42,11 @@ impl Twin {
 
     /// The answers, the states, both buffers to their ends and what surrounds them. A refusal leaves `ended` as the very number that it was.
     fn agree(&self, call: &str, before: board::State, answer: board::Answer, model: board::Answer) -> Verdict<board::Answer> {
-        let reader::State { held, gap, total, ended } = self.model;
+        let reader::State { held, gap, total, ended, summed } = self.model;
         same(&format!("{call}: answer"), answer, model)?;
         same(&format!("{call}: held, gap, total"), (self.state.held, self.state.gap, self.state.total), (held, gap, total))?;
         same(&format!("{call}: ended"), self.state.ended != 0, ended)?;
+        same(&format!("{call}: summed"), self.state.summed, summed)?;
         if answer.refusal != 0 {
             same(&format!("{call}: the state after a refusal"), self.state, before)?;
         }

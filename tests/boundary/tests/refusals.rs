@@ -27,7 +27,7 @@ fn refused(state: board::State, window: usize, output: usize, piece: &[u8], feed
 }
 
 fn state(held: u64, gap: u64, total: u64, ended: u64) -> board::State {
-    board::State { held, gap, total, ended }
+    board::State { held, gap, total, ended, summed: 0 }
 }
 
 #[test]

@@ -58,7 +58,7 @@ pub fn settled(text_of: fn(usize, &[u8]) -> String, come: &[u8], position: &mut 
     loop {
         match standing(&come[*position..]) {
             Standing::Open => return text,
-            Standing::Gap => *position += 1,
+            Standing::Gap | Standing::Damaged(_) => *position += 1,
             Standing::Message(length) => {
                 text += &text_of(*position, &come[*position..*position + length]);
                 *position += length;

@@ -7,12 +7,14 @@ mod message;
 mod numbers;
 mod reason;
 mod stream;
+mod work;
 
 pub use division::{divide, message_at, next, Division, Found, Given};
 pub use message::{check, checksum, read, set, start, to_new, to_old, Form, Header, Message, Observation, Reading};
 pub use numbers::{lock_ms, phase, plot_row, range_um, Phase};
 pub use reason::{reasons, why, Reason};
-pub use stream::{feed, finish, standing, Answer, Standing, State, STREAM_BYTES};
+pub use stream::{feed, finish, standing, Answer, Standing, State, STREAM_BYTES, SUMMED_BYTES};
+pub use work::{most_work, work};
 
 /// The length of the longest message, which is of the new form with 255 observations.
 pub const LONGEST: usize = 6136;

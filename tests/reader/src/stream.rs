@@ -6,12 +6,16 @@ use crate::{Refusal, LONGEST};
 /// The longest stream that a state counts, 2^48 bytes.
 pub const STREAM_BYTES: u64 = 1 << 48;
 
+/// The most bytes summed with which a state is still taken, 2^60.
+pub const SUMMED_BYTES: u64 = 1 << 60;
+
 #[derive(Clone, Copy, Debug, Default, PartialEq)]
 pub struct State {
     pub held: u64,
     pub gap: u64,
     pub total: u64,
     pub ended: bool,
+    pub summed: u64,
 }
 
 #[derive(Clone, Copy, Debug, PartialEq)]
@@ -21,12 +25,24 @@ pub enum Answer {
     End { gap: u64 },
 }
 
-/// How a position stands while only the bytes from it on that are held are known.
+/// How a position stands while only the bytes from it on that are held are known: settled as gap by a byte that contradicts both sync strings, or by
+/// the checksum of a message of so many bytes; settled as a message; or open.
 #[derive(Clone, Copy, Debug, PartialEq)]
 pub enum Standing {
     Gap,
+    Damaged(usize),
     Message(usize),
     Open,
+}
+
+impl Standing {
+    /// The bytes that went through the checksum to tell: all but the sync string and the checksum itself, once all are there.
+    fn summed(self) -> u64 {
+        match self {
+            Standing::Damaged(length) | Standing::Message(length) => length as u64 - 5,
+            Standing::Gap | Standing::Open => 0,
+        }
+    }
 }
 
 pub fn standing(from: &[u8]) -> Standing {
@@ -40,7 +56,7 @@ pub fn standing(from: &[u8]) -> Standing {
     match from.get(..form.length(count)) {
         None => Standing::Open,
         Some(whole) if check(whole) == Ok(form) => Standing::Message(whole.len()),
-        Some(_) => Standing::Gap,
+        Some(whole) => Standing::Damaged(whole.len()),
     }
 }
 
@@ -50,7 +66,7 @@ fn refuse(state: &State, window: &[u8], output: &[u8]) -> Result<(), Refusal> {
         return Err(8);
     }
     let counted = u128::from(state.gap) + u128::from(state.held);
-    if state.held > LONGEST as u64 || state.total > STREAM_BYTES || counted > u128::from(state.total) {
+    if state.held > LONGEST as u64 || state.total > STREAM_BYTES || counted > u128::from(state.total) || state.summed > SUMMED_BYTES {
         return Err(9);
     }
     Ok(())
@@ -84,8 +100,10 @@ pub fn feed(state: &mut State, piece: &[u8], window: &mut [u8], output: &mut [u8
     let mut seen = window[..state.held as usize].to_vec();
     let (mut position, mut taken) = (0, 0);
     loop {
-        match standing(&seen[position..]) {
-            Standing::Gap => position += 1,
+        let standing = standing(&seen[position..]);
+        state.summed += standing.summed();
+        match standing {
+            Standing::Gap | Standing::Damaged(_) => position += 1,
             Standing::Message(length) => {
                 state.total += taken as u64;
                 let gap = give(&seen, position, length, state, window, output);
@@ -111,7 +129,9 @@ pub fn finish(state: &mut State, window: &mut [u8], output: &mut [u8]) -> Result
     state.ended = true;
     let seen = window[..state.held as usize].to_vec();
     for position in 0..seen.len() {
-        if let Standing::Message(length) = standing(&seen[position..]) {
+        let standing = standing(&seen[position..]);
+        state.summed += standing.summed();
+        if let Standing::Message(length) = standing {
             let gap = give(&seen, position, length, state, window, output);
             return Ok(Answer::Message { length, gap, taken: 0 });
         }

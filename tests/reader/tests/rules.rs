@@ -50,7 +50,7 @@ fn fewest(held: &[u8], piece: &[u8]) -> (usize, usize, Option<usize>) {
         let mut position = 0;
         loop {
             match standing(&seen[position..]) {
-                Standing::Gap => position += 1,
+                Standing::Gap | Standing::Damaged(_) => position += 1,
                 Standing::Message(length) => return (taken, position, Some(length)),
                 Standing::Open if taken == piece.len() => return (taken, position, None),
                 Standing::Open => break,
@@ -60,6 +60,7 @@ fn fewest(held: &[u8], piece: &[u8]) -> (usize, usize, Option<usize>) {
     unreachable!("the last number of bytes taken answers")
 }
 
+/// And sums what the bytes seen cost less what the bytes still held will.
 #[test]
 fn feeding_takes_the_fewest_bytes() {
     let stream = [&b"MACMAC2MAC"[..], &A, b"MACMACM", &[2, 1], &B, &A, b"MMAC2", &[7; 20], &B, b"MA"].concat();
@@ -68,18 +69,19 @@ fn feeding_takes_the_fewest_bytes() {
             let (held, piece) = (&stream[from..cut], &stream[cut..]);
             let (mut window, mut output) = (vec![0xEE; LONGEST], vec![0xDD; LONGEST]);
             window[..held.len()].copy_from_slice(held);
-            let mut state = State { held: held.len() as u64, gap: 5, total: 100, ended: false };
+            let mut state = State { held: held.len() as u64, gap: 5, total: 100, ended: false, summed: 1000 };
             let (taken, position, message) = fewest(held, piece);
             let expected = match message {
                 Some(length) => Answer::Message { length, gap: 5 + position as u64, taken },
                 None => Answer::NeedsMore { taken },
             };
             assert_eq!(feed(&mut state, piece, &mut window, &mut output), Ok(expected), "from {from}, cut at {cut}");
-            let rest = position + message.unwrap_or(0);
-            let still = [held, &piece[..taken]].concat()[rest..].to_vec();
+            let seen = [held, &piece[..taken]].concat();
+            let still = &seen[position + message.unwrap_or(0)..];
             let gap = if message.is_some() { 0 } else { 5 + position as u64 };
-            assert_eq!(state, State { held: still.len() as u64, gap, total: 100 + taken as u64, ended: false });
-            assert_eq!(window[..still.len()], still);
+            let summed = 1000 + work(&seen) - work(still);
+            assert_eq!(state, State { held: still.len() as u64, gap, total: 100 + taken as u64, ended: false, summed });
+            assert_eq!(window[..still.len()], *still);
             assert!(window[still.len()..].iter().all(|&byte| byte == 0));
         }
     }
@@ -165,14 +167,70 @@ fn a_damaged_byte_is_the_residue() {
     }
 }
 
+/// B in the fields of an old message of 39 bytes, from byte 18 on.
+fn nested() -> Vec<u8> {
+    let phase = u64::from_be_bytes(*b"MACM\x02\x00\x0E\xA0");
+    let observation = Observation { phase, pseudorange: 0x0C90_407C, rate: 0x1000_1C00, ..Default::default() };
+    Message { header: Header::Old { version: 2, time: 0, offset: 0 }, observations: vec![observation] }.to_bytes()
+}
+
 /// A whole message in the fields of a given one is not given; it is where the outer one is none.
 #[test]
 fn inside_comes_first() {
-    let phase = u64::from_be_bytes(*b"MACM\x02\x00\x0E\xA0");
-    let observation = Observation { phase, pseudorange: 0x0C90_407C, rate: 0x1000_1C00, ..Default::default() };
-    let message = Message { header: Header::Old { version: 2, time: 0, offset: 0 }, observations: vec![observation] }.to_bytes();
+    let message = nested();
     assert_eq!(message_at(&message, 18), Some(15));
     let reasons = all_reasons(&message);
     assert_eq!((reasons[0], reasons[18]), (Reason::Given(39), Reason::Inside(0)));
     assert_eq!(all_reasons(&message[1..])[17], Reason::Given(15));
+}
+
+/// A covers 11 bytes and B 10, whether the checksum agrees or not; a message that is not all there covers none.
+#[test]
+fn the_work_of_short_streams() {
+    let mut damaged = nested();
+    damaged[10] ^= 1;
+    for (stream, summed) in [
+        (vec![], 0),
+        ([&A[..3], &A].concat(), 11),
+        ([&A[..], &B].concat(), 21),
+        (B.to_vec(), 10),
+        (with(15, 0x1F), 11),
+        ([&with(15, 0x1F)[..], &B].concat(), 21),
+        (A[..15].to_vec(), 0),
+        (B[..14].to_vec(), 0),
+        // With the first byte of B it is all there, and off.
+        ([&A[..15], &B].concat(), 21),
+        // B is tested where the message around it is none, or is not there from its first byte on.
+        (nested(), 34),
+        (damaged, 44),
+        (nested()[1..].to_vec(), 10),
+    ] {
+        assert_eq!(work(&stream), summed, "{}", stream.escape_ascii());
+    }
+}
+
+#[test]
+fn the_work_of_the_longest_messages() {
+    for (header, summed) in [(Header::Old { version: 2, time: 0, offset: 0 }, 6130), (Header::New { signal: 0, tfom: 0, time: 0, offset: 0 }, 6131)] {
+        let message = Message { header, observations: vec![Observation::default(); 255] }.to_bytes();
+        assert_eq!((work(&message), work(&message[1..]), work(&message[..message.len() - 1])), (summed, 0, 0));
+    }
+}
+
+/// Every sixth byte claims 6,135 bytes: 1,022 starts and three bytes, so that the last 1,022 starts are cut short. A long crowd comes near half of
+/// the bound.
+#[test]
+fn the_work_of_a_crowd_of_starts() {
+    for whole in [0, 1, 2, 18_978] {
+        let stream = b"MACMx\xFF".repeat(1022 + whole);
+        assert_eq!(work(&stream), 6130 * whole as u64);
+    }
+    assert_eq!((6130 * 18_978, most_work(6 * 20_000)), (116_335_140, 245_233_869));
+}
+
+#[test]
+fn the_most_work_of_a_length() {
+    for (length, most) in [(0, 0), (1, 0), (3, 0), (4, 6131), (6, 6131), (7, 12_262), (6136, 12_537_895)] {
+        assert_eq!(most_work(length), most, "{length} bytes");
+    }
 }
