@@ -135,6 +135,6 @@ fn stream_reader() {
         while board::finish(&mut state, window, output).kind == board::MESSAGE {
             messages += 1;
         }
-        assert_eq!(messages, reader::divide(&stream).given.len());
+        assert_eq!((messages, state.summed), (reader::divide(&stream).given.len(), reader::work(&stream)));
     }
 }

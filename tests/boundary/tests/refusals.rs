@@ -1,7 +1,7 @@
 //! Each refusal of document 01's table by name, in the order in which a call tests them: all other numbers are 0, and no lent byte changes.
 
 use boundary::{board, check, next, read, reasons, set, start, to_new, to_old, Twin};
-use reader::{LONGEST, STREAM_BYTES};
+use reader::{LONGEST, STREAM_BYTES, SUMMED_BYTES};
 
 // Both stand in read-only memory: a call that wrote into a message lent for reading would end the program.
 static A: [u8; 16] = [0x4D, 0x41, 0x43, 0x32, 0x00, 0x00, 0x00, 0x0E, 0xA0, 0x0C, 0x90, 0x40, 0x7C, 0x10, 0x00, 0x1E];
@@ -86,7 +86,7 @@ fn six_and_seven() {
 
 #[test]
 fn eight_comes_before_all() {
-    let broken = state(u64::MAX, u64::MAX, u64::MAX, 1);
+    let broken = board::State { summed: u64::MAX, ..state(u64::MAX, u64::MAX, u64::MAX, 1) };
     for (window, output) in [(0, 0), (LONGEST - 1, LONGEST), (LONGEST, LONGEST - 1), (0, 20000), (20000, 0)] {
         refused(broken, window, output, &A, 8, 8);
         refused(state(0, 0, 0, 0), window, output, &A, 8, 8);
@@ -108,6 +108,36 @@ fn nine() {
         (state(longest, STREAM_BYTES - longest, STREAM_BYTES, 0), 0),
     ] {
         refused(state, LONGEST, LONGEST, &[], number, number);
+    }
+}
+
+#[test]
+fn nine_for_the_bytes_summed() {
+    for (summed, number) in [(0, 0), (SUMMED_BYTES - 1, 0), (SUMMED_BYTES, 0), (SUMMED_BYTES + 1, 9), (1 << 61, 9), (1 << 63, 9), (u64::MAX, 9)] {
+        refused(board::State { summed, ..board::fresh() }, LONGEST, LONGEST, &A, number, number);
+    }
+    let ended_and_full = board::State { summed: SUMMED_BYTES + 1, ..state(0, 0, STREAM_BYTES, 1) };
+    refused(ended_and_full, LONGEST, LONGEST, &A, 9, 9);
+}
+
+/// A call may pass 2^60, by a message or by a checksum that is off; the next one is refused.
+#[test]
+fn nine_after_a_call_that_passes_the_most() {
+    let mut off = A;
+    off[15] ^= 1;
+    for (before, number) in [(SUMMED_BYTES - 11, 0), (SUMMED_BYTES - 10, 9), (SUMMED_BYTES, 9)] {
+        for message in [&A, &off] {
+            let held = board::State { summed: before, ..state(16, 0, 16, 0) };
+            let window = [&message[..], &[0; LONGEST]].concat();
+            for feeds in [true, false] {
+                let mut twin = Twin::new(held, window.clone(), vec![0; LONGEST]);
+                let first = if feeds { twin.feed(&[]) } else { twin.finish() }.unwrap();
+                assert_eq!((first.refusal, twin.state.summed), (0, before + 11));
+                assert_eq!(twin.finish().unwrap().refusal, number);
+                assert_eq!(twin.feed(&[]).unwrap().refusal, if number == 0 { 10 } else { 9 });
+                assert_eq!(twin.state.summed, before + 11);
+            }
+        }
     }
 }
 

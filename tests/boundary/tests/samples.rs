@@ -39,11 +39,24 @@ fn a_then_b() {
     let mut twin = fresh();
     let message = |length, taken| board::Answer { kind: board::MESSAGE, length, taken, ..Default::default() };
     assert_eq!(twin.feed(&stream).unwrap(), message(16, 16));
-    assert_eq!(twin.output()[..16], A);
+    assert_eq!((&twin.output()[..16], twin.state.summed), (&A[..], 11));
     assert_eq!(twin.feed(&stream[16..]).unwrap(), message(15, 15));
-    assert_eq!(twin.output()[..15], B);
+    assert_eq!((&twin.output()[..15], twin.state.summed), (&B[..], 21));
     assert_eq!(twin.feed(&[]).unwrap(), board::Answer::default());
     assert_eq!(twin.finish().unwrap(), board::Answer { kind: board::END, ..Default::default() });
+    assert_eq!(twin.state.summed, 21);
+}
+
+/// Each message is summed by the call that brings its last byte.
+#[test]
+fn a_then_b_byte_by_byte() {
+    let mut twin = fresh();
+    for (place, byte) in A.into_iter().chain(B).enumerate() {
+        twin.feed(&[byte]).unwrap();
+        assert_eq!(twin.state.summed, 11 * u64::from(place >= 15) + 10 * u64::from(place >= 30), "byte {place}");
+    }
+    assert_eq!(twin.finish().unwrap().kind, board::END);
+    assert_eq!(twin.state.summed, 21);
 }
 
 #[test]
@@ -51,12 +64,27 @@ fn s12_needs_more_until_it_is_finished() {
     let stream = [&A[..3], &A].concat();
     let mut twin = fresh();
     assert_eq!(twin.feed(&stream).unwrap(), board::Answer { kind: board::NEEDS_MORE, taken: 19, ..Default::default() });
+    assert_eq!(twin.state.summed, 0);
     assert_eq!(twin.finish().unwrap(), board::Answer { kind: board::MESSAGE, length: 16, gap: 3, ..Default::default() });
-    assert_eq!(twin.output()[..16], A);
+    assert_eq!((&twin.output()[..16], twin.state.summed), (&A[..], 11));
     let end = board::Answer { kind: board::END, ..Default::default() };
     assert_eq!(twin.finish().unwrap(), end);
     assert_eq!(twin.finish().unwrap(), end);
+    assert_eq!(twin.state.summed, 11);
     assert_eq!(board::next(&stream, 0), board::Found { refusal: 0, kind: board::MESSAGE, position: 3, length: 16, gap: 3 });
+}
+
+/// Position 0 is open to the end, so that nothing is summed before the first finish.
+#[test]
+fn s12_byte_by_byte() {
+    let mut twin = fresh();
+    for byte in [&A[..3], &A].concat() {
+        assert_eq!(twin.feed(&[byte]).unwrap(), board::Answer { kind: board::NEEDS_MORE, taken: 1, ..Default::default() });
+        assert_eq!(twin.state.summed, 0);
+    }
+    for kind in [board::MESSAGE, board::END, board::END] {
+        assert_eq!((twin.finish().unwrap().kind, twin.state.summed), (kind, 11));
+    }
 }
 
 #[test]
