@@ -1,7 +1,7 @@
 //! The streams are hostile enough: readers with the slips that people make are told from the right one by them. A slip that went unnoticed here would
 //! go unnoticed behind the C boundary too.
 
-use reader::{check, checksum, divide, feed, finish, message_at, reasons, Answer, Form, Reason, State, LONGEST};
+use reader::{check, checksum, divide, feed, finish, message_at, reasons, work, Answer, Form, Reason, State, LONGEST};
 use streams::{cuts, stream, Random};
 
 const SEED: u64 = 20_041;
@@ -18,7 +18,7 @@ fn claim(from: &[u8]) -> Option<usize> {
 }
 
 /// A division in which `valid` decides about a whole claim and `step` how far to go on where no message stands.
-fn divide_with(stream: &[u8], valid: fn(&[u8]) -> bool, step: fn(&[u8]) -> usize) -> Given {
+fn divide_with(stream: &[u8], mut valid: impl FnMut(&[u8]) -> bool, step: fn(&[u8]) -> usize) -> Given {
     let (mut given, mut gap, mut position) = (Vec::new(), 0, 0);
     while position < stream.len() {
         let from = &stream[position..];
@@ -55,16 +55,21 @@ fn starts(from: &[u8]) -> bool {
     Form::BOTH.iter().any(|form| from.starts_with(&form.sync()))
 }
 
-/// The number of streams on which a reader differs from the division.
-fn noticed(reader: impl Fn(&[u8], &[usize]) -> Given) -> usize {
+/// The number of streams, each in pieces, of which this is true.
+fn streams_with(differs: impl Fn(&[u8], &[usize]) -> bool) -> usize {
     (0..STREAMS)
         .filter(|case| {
             let mut random = Random::new(SEED + case);
             let stream = stream(&mut random);
             let pieces = cuts(&mut random, stream.len());
-            reader(&stream, &pieces) != right(&stream)
+            differs(&stream, &pieces)
         })
         .count()
+}
+
+/// The number of streams on which a reader differs from the division.
+fn noticed(reader: impl Fn(&[u8], &[usize]) -> Given) -> usize {
+    streams_with(|stream, pieces| reader(stream, pieces) != right(stream))
 }
 
 fn assert_noticed(slip: &str, times: usize) {
@@ -113,8 +118,8 @@ fn looking_at_the_old_sync_alone() {
     assert_noticed("knowing the old form alone", noticed(|stream, _| divide_with(stream, old, one)));
 }
 
-/// Runs the model over the pieces; `between` may do harm after each piece.
-fn run(stream: &[u8], pieces: &[usize], between: fn(&mut State, &mut [u8])) -> Given {
+/// Runs the model over the pieces; `between` may do harm after each piece. Answers the bytes summed, too.
+fn run(stream: &[u8], pieces: &[usize], between: impl Fn(&mut State, &mut [u8])) -> (Given, u64) {
     let (mut state, mut window, mut output) = (State::default(), vec![0; LONGEST], vec![0; LONGEST]);
     let (mut given, mut left) = (Vec::new(), stream);
     for &length in pieces {
@@ -129,7 +134,7 @@ fn run(stream: &[u8], pieces: &[usize], between: fn(&mut State, &mut [u8])) -> G
     loop {
         match finish(&mut state, &mut window, &mut output) {
             Ok(Answer::Message { length, gap, .. }) => given.push((gap as usize, length)),
-            Ok(Answer::End { gap }) => return (given, gap as usize),
+            Ok(Answer::End { gap }) => return ((given, gap as usize), state.summed),
             other => panic!("finishing answers {other:?}"),
         }
     }
@@ -137,7 +142,7 @@ fn run(stream: &[u8], pieces: &[usize], between: fn(&mut State, &mut [u8])) -> G
 
 #[test]
 fn the_model_gives_the_division() {
-    assert_eq!(noticed(|stream, pieces| run(stream, pieces, |_, _| ())), 0);
+    assert_eq!(noticed(|stream, pieces| run(stream, pieces, |_, _| ()).0), 0);
 }
 
 #[test]
@@ -146,12 +151,12 @@ fn settling_an_unfinished_message_because_a_piece_ended() {
         state.gap += std::mem::take(&mut state.held);
         window.fill(0);
     };
-    assert_noticed("settling at a piece's end", noticed(|stream, pieces| run(stream, pieces, settle)));
+    assert_noticed("settling at a piece's end", noticed(|stream, pieces| run(stream, pieces, settle).0));
 }
 
 #[test]
 fn losing_the_gap_between_calls() {
-    assert_noticed("losing the gap", noticed(|stream, pieces| run(stream, pieces, |state, _| state.gap = 0)));
+    assert_noticed("losing the gap", noticed(|stream, pieces| run(stream, pieces, |state, _| state.gap = 0).0));
 }
 
 #[test]
@@ -162,17 +167,12 @@ fn losing_the_last_held_byte() {
             window[state.held as usize] = 0;
         }
     };
-    assert_noticed("losing a held byte", noticed(|stream, pieces| run(stream, pieces, lose)));
+    assert_noticed("losing a held byte", noticed(|stream, pieces| run(stream, pieces, lose).0));
 }
 
 /// The number of streams in which a slip changes the reason of some position. It is told the bytes from there on and the right reason.
 fn noticed_reason(slip: fn(&[u8], Reason) -> Reason) -> usize {
-    (0..STREAMS)
-        .filter(|case| {
-            let stream = stream(&mut Random::new(SEED + case));
-            reasons(&stream).into_iter().enumerate().any(|(position, reason)| slip(&stream[position..], reason) != reason)
-        })
-        .count()
+    streams_with(|stream, _| reasons(stream).into_iter().enumerate().any(|(position, reason)| slip(&stream[position..], reason) != reason))
 }
 
 #[test]
@@ -206,4 +206,75 @@ fn the_residue_without_the_checksum_byte() {
         _ => reason,
     };
     assert_noticed("the residue without the checksum byte", noticed_reason(slip));
+}
+
+/// The number of streams of which a reader counts other bytes summed than the division makes it.
+fn noticed_count(summed: impl Fn(&[u8], &[usize]) -> u64) -> usize {
+    streams_with(|stream, pieces| summed(stream, pieces) != work(stream))
+}
+
+/// A count over the division. `tested` makes the next of the one so far, the length of a message that is all there, and whether it is given.
+fn count_with(stream: &[u8], tested: fn(u64, u64, bool) -> u64) -> u64 {
+    let mut summed = 0;
+    let counting = |whole: &[u8]| {
+        let given = valid(whole);
+        summed = tested(summed, whole.len() as u64, given);
+        given
+    };
+    divide_with(stream, counting, one);
+    summed
+}
+
+#[test]
+fn the_count_itself_is_right() {
+    assert_eq!(noticed_count(|stream, _| count_with(stream, |summed, length, _| summed + length - 5)), 0);
+    assert_eq!(noticed_count(|stream, pieces| run(stream, pieces, |_, _| ()).1), 0);
+}
+
+#[test]
+fn counting_anew_after_a_message() {
+    let tested = |summed, length, given| if given { 0 } else { summed + length - 5 };
+    assert_noticed("counting anew after a message", noticed_count(|stream, _| count_with(stream, tested)));
+}
+
+#[test]
+fn counting_the_checksum_itself() {
+    let tested = |summed, length, _| summed + length - 4;
+    assert_noticed("counting the checksum itself", noticed_count(|stream, _| count_with(stream, tested)));
+}
+
+#[test]
+fn leaving_the_message_out_of_the_count() {
+    let tested = |summed, length, given| if given { summed } else { summed + length - 5 };
+    assert_noticed("leaving the message out of the count", noticed_count(|stream, _| count_with(stream, tested)));
+}
+
+#[test]
+fn leaving_failed_tests_out_of_the_count() {
+    let tested = |summed, length, given| if given { summed + length - 5 } else { summed };
+    assert_noticed("leaving failed tests out of the count", noticed_count(|stream, _| count_with(stream, tested)));
+}
+
+/// Every gap byte since the last message once more, when the next piece comes.
+#[test]
+fn testing_a_position_again_after_a_cut() {
+    let again = |stream: &[u8], state: &mut State| {
+        let open = (state.total - state.held) as usize;
+        let seen = &stream[..state.total as usize];
+        let tested = (open - state.gap as usize..open).filter_map(|position| claim(&seen[position..]));
+        state.summed += tested.map(|length| length as u64 - 5).sum::<u64>();
+    };
+    let times = noticed_count(|stream, pieces| run(stream, pieces, |state, _| again(stream, state)).1);
+    assert_noticed("testing a position again after a cut", times);
+}
+
+/// As far as it goes, and from its beginning when the next piece comes.
+#[test]
+fn summing_an_unfinished_message() {
+    let sum = |state: &mut State, window: &mut [u8]| {
+        if starts(&window[..state.held as usize]) {
+            state.summed += state.held - 4;
+        }
+    };
+    assert_noticed("summing an unfinished message", noticed_count(|stream, pieces| run(stream, pieces, sum).1));
 }
