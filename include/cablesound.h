@@ -32,7 +32,7 @@ enum {
     CS_NO_ROOM = 6,        /* the output is too short for the message */
     CS_WRONG_FORM = 7,     /* a conversion from the wrong form, or to the old form with TYPE other than 0 */
     CS_SMALL_BUFFER = 8,   /* window or output shorter than CS_LONGEST */
-    CS_BAD_STATE = 9,      /* a state with held above CS_LONGEST, total above CS_STREAM_BYTES, or gap + held above total */
+    CS_BAD_STATE = 9,      /* a state with held above CS_LONGEST, total above CS_STREAM_BYTES, gap + held above total, or summed above 2^60 */
     CS_ENDED = 10,         /* feeding after the first accepted finish */
     CS_TOO_LONG = 11,      /* the stream would be longer than CS_STREAM_BYTES */
     CS_PAST_THE_END = 12   /* cs_next: the start is past the recording's end; cs_why: the position is at the end or past it */
@@ -58,8 +58,12 @@ enum {
 /* The kind of a phase. */
 enum { CS_WITHHELD = 0, CS_NOT_FINITE = 1, CS_CYCLES = 2 };
 
-/* One reader's state. Keep it for the whole stream and write nothing into it; cs_fresh gives a new one. ended is 0, or anything else. */
-typedef struct { uint64_t held, gap, total, ended; } cs_state;
+/* One reader's state. Keep it for the whole stream and write nothing into it; cs_fresh gives a new one. ended is 0, or anything else.
+ *
+ * summed is for those who schedule: the bytes run through the checksum so far, in the end the same however the stream is cut. A stream costs at most
+ * 6,131 of them for every 3 bytes behind its first; one crowded with false starts comes to about half of that. Each sync string that no earlier
+ * message covers counts once, when all of its message has come, right or wrong: the message's length less 5. */
+typedef struct { uint64_t held, gap, total, ended, summed; } cs_state;
 
 /* What a stream call answers: the kind; with CS_MESSAGE the length of the message at the front of the output and the gap bytes before it; with CS_END
  * the gap bytes behind the last message; and how many bytes of the piece were taken, which is all of it with CS_NEEDS_MORE. */
@@ -134,8 +138,9 @@ cs_state cs_fresh(void);
  * every byte behind it stays: offer the piece again from taken on. With CS_NEEDS_MORE the output stays as it was: feed the next piece. After both the
  * bytes held stand at the front of the window, with zeros behind them to its end. Refuses with 8, 9, 10, 11.
  *
- * In flight: 9 says that the state was overwritten, so take a new one with cs_fresh and go on; what the window held is lost. 10 says that the stream
- * was finished: a new stream needs a new state. 11 says that the state has counted 2^48 bytes: finish it, and go on with a new one. */
+ * In flight: 9 says that the state was overwritten, since no stream sums 2^60 bytes, so take a new one with cs_fresh and go on; what the window held
+ * is lost. 10 says that the stream was finished: a new stream needs a new state. 11 says that the state has counted 2^48 bytes: finish it, and go on
+ * with a new one. */
 cs_answer cs_feed(cs_state *state, const uint8_t *piece, size_t piece_length, uint8_t *window, size_t window_length, uint8_t *output,
                   size_t output_length);
 

@@ -1,6 +1,6 @@
 #!/bin/sh
-# The C host of tests/host/ reads the published messages and S12 through the C boundary, compiled plainly and with sanitizers, and prints what
-# tests/host/expected.txt says; another one prints the reasons that the program `why` prints; the header is taken by C and by C++. Needs
+# The C host of tests/host/ reads the published messages, S12, and A then B through the C boundary, compiled plainly and with sanitizers, and prints
+# what tests/host/expected.txt says; another one prints the reasons that the program `why` prints; the header is taken by C and by C++. Needs
 # target/staticlib/libboard.a, which `rt staticlib board` leaves.
 set -u
 root=$(cd "$(dirname "$0")/.." && pwd -P) || exit 2
@@ -29,6 +29,8 @@ listing() {
     done
     echo "S12, from standard input"
     printf 'MACMAC2\000\000\000\016\240\014\220\100\174\020\000\036' | "$work/$1" || return 1
+    echo "A then B, from standard input"
+    printf 'MAC2\000\000\000\016\240\014\220\100\174\020\000\036MACM\002\000\016\240\014\220\100\174\020\000\034' | "$work/$1" || return 1
     echo "nothing, from standard input"
     "$work/$1" </dev/null
 }

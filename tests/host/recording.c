@@ -73,7 +73,8 @@ static uint64_t feed(cs_state *state, const uint8_t *piece, size_t length) {
     }
 }
 
-/* The stream is over: messages may still be held behind a false start, so this goes on until the end is answered. */
+/* The stream is over: messages may still be held behind a false start, so this goes on until the end is answered. The state then has how many bytes
+ * came and how many went through the checksum, which a byte under several false starts does several times. */
 static uint64_t finish(cs_state *state) {
     for (;;) {
         cs_answer answer = cs_finish(state, window, sizeof window, output, sizeof output);
@@ -81,7 +82,7 @@ static uint64_t finish(cs_state *state) {
             return answer.refusal;
         }
         if (answer.kind == CS_END) {
-            printf("end %" PRIu64 " gap %" PRIu64 "\n", state->total, answer.gap);
+            printf("end %" PRIu64 " gap %" PRIu64 " summed %" PRIu64 "\n", state->total, answer.gap, state->summed);
             return 0;
         }
         uint64_t refusal = print_message(&answer);

@@ -1,9 +1,9 @@
-//! What the C host `tests/host/recording.c` has to print: of the published messages, of S12, and of nothing.
+//! What the C host `tests/host/recording.c` has to print: of the published messages, of S12, of A then B, and of nothing.
 
-use reader::{divide, phase, range_um, Form, Message, Observation, Phase};
+use reader::{divide, phase, range_um, work, Form, Message, Observation, Phase};
 
 use crate::time;
-use crate::vectors::{NEW, PUBLISHED};
+use crate::vectors::{NEW, OLD, PUBLISHED};
 
 fn observed(form: Form, observation: &Observation) -> String {
     let cycles = match phase(form, observation) {
@@ -24,11 +24,11 @@ fn recording(stream: &[u8]) -> String {
         text += &format!("at {} bytes {} gap {} form {name} count {count} time {}\n", given.position, given.length, given.gap, time(message.header));
         text.extend(message.observations.iter().map(|observation| observed(form, observation)));
     }
-    text + &format!("end {} gap {}\n", stream.len(), division.rest)
+    text + &format!("end {} gap {} summed {}\n", stream.len(), division.rest, work(stream))
 }
 
 pub fn host() -> String {
     let published = PUBLISHED.map(|(name, stream)| format!("{}\n{}", name.trim_end_matches(".bin"), recording(stream))).concat();
-    let s12 = recording(&[b"MAC", NEW].concat());
-    format!("{published}S12, from standard input\n{s12}nothing, from standard input\n{}", recording(&[]))
+    let piped = [("S12", [b"MAC", NEW].concat()), ("A then B", [NEW, OLD].concat()), ("nothing", Vec::new())];
+    published + &piped.map(|(name, stream)| format!("{name}, from standard input\n{}", recording(&stream))).concat()
 }

@@ -10,7 +10,7 @@ pub(crate) const PUBLISHED: [(&str, &[u8]); 3] = [
     ("264-04-table-4-by-the-rule.bin", include_bytes!("../../../crates/vectors/data/264-04-table-4-by-the-rule.bin")),
 ];
 pub(crate) const NEW: &[u8] = b"MAC2\x00\x00\x00\x0E\xA0\x0C\x90\x40\x7C\x10\x00\x1E";
-const OLD: &[u8] = b"MACM\x02\x00\x0E\xA0\x0C\x90\x40\x7C\x10\x00\x1C";
+pub(crate) const OLD: &[u8] = b"MACM\x02\x00\x0E\xA0\x0C\x90\x40\x7C\x10\x00\x1C";
 
 fn given(gap: usize, position: usize, message: &[u8]) -> String {
     format!("gap {gap}\n{}{}", line(position, message), rows_of(position, message))
