@@ -41,9 +41,10 @@ enum { MEASURED = 3, ALL = 4 };
 /* The most nanoseconds that a feed of one byte may take. */
 static const double FEED_TARGET = 150;
 
-/* What a reader gave. Where `whole` is not 0 the digest covers every byte, else little more than the lengths, so that it costs next to nothing. */
+/* What a reader gave, and the bytes that the library's stream reader summed. Where `whole` is not 0 the digest covers every byte, else little more
+ * than the lengths, so that it costs next to nothing. */
 typedef struct {
-    uint64_t messages, gaps, calls, digest;
+    uint64_t messages, gaps, calls, digest, summed;
     int whole;
 } tally;
 
@@ -101,6 +102,7 @@ static void run_library(const uint8_t *bytes, size_t length, size_t piece, tally
         note(t, output, (size_t)answer.length, answer.gap);
     }
     t->gaps += answer.gap;
+    t->summed = state.summed;
 }
 
 /* The plain reader, which takes the stream as one recording, whatever the piece. */
@@ -147,7 +149,7 @@ enum { WAYS = 5 };
 /* ---- in memory */
 
 static void compare(const stream *s, const way *w) {
-    tally library = {0, 0, 0, 0, 1}, c = {0, 0, 0, 0, 1};
+    tally library = {.whole = 1}, c = {.whole = 1};
     w->library(s->bytes, s->fed, w->piece, &library);
     run_c(s->bytes, s->fed, w->piece, &c);
     if (library.messages != c.messages || library.gaps != c.gaps || library.digest != c.digest) {
@@ -166,7 +168,7 @@ static double cpu_seconds(void) {
 }
 
 static double seconds_of(run *reader, const stream *s, const way *w, uint64_t *calls) {
-    tally t = {0, 0, 0, 0, 0};
+    tally t = {.whole = 0};
     double before = cpu_seconds();
     reader(s->bytes, s->fed, w->piece, &t);
     double taken = cpu_seconds() - before;
@@ -198,6 +200,17 @@ static double measure(const stream *s, const way *w) {
     print_row(s->name, w->name, s->fed, best);
     printf(" %12.1f\n", call);
     return call;
+}
+
+/* ---- the bytes summed */
+
+/* Prints how many bytes of a stream go through the checksum for each byte fed, beside the most that a stream of its length can cost: 6,131 for every
+ * three bytes behind the first. */
+static void print_summed(const stream *s) {
+    tally t = {.whole = 0};
+    run_library(s->bytes, s->fed, s->fed, &t);
+    double fed = (double)s->fed, most = 6131.0 * (double)((s->fed - 1) / 3);
+    printf("%-8s %10zu %12" PRIu64 " %12.2f %12.2f\n", s->name, s->fed, t.summed, (double)t.summed / fed, most / fed);
 }
 
 /* ---- the listing */
@@ -311,6 +324,10 @@ int main(int argc, char **argv) {
         double one = measure_all(&streams[i]);
         feed = one > feed ? one : feed;
         listings[i] = measure_listing(&streams[i], folder, program);
+    }
+    printf("%-8s %10s %12s %12s %12s\n", "stream", "bytes fed", "bytes summed", "a byte fed", "at most");
+    for (int i = 0; i < ALL; i++) {
+        print_summed(&streams[i]);
     }
     for (int i = 0; i < MEASURED; i++) {
         missed |= judge(&streams[i], listings[i]);
