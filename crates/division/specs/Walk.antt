@@ -40,6 +40,6 @@ abbrev pub settled : Walked → ℕ
 settled (Message at n reach) = suc at
 settled (Unsettled at) = at
 
--- a walk from the first position on, with the bytes run through the checksum for those that it settled
+-- a walk from the first position on, with the bytes run through the checksum for those that it settled, as far as 64 bits hold their number
 abbrev pub wholeWalk : Bool → List ℕ → Passage
 wholeWalk ended xs = record { walked = walkOf ended xs 0 0; summed = testedIn (settled (walkOf ended xs 0 0)) xs % 2 ^ 64 }
