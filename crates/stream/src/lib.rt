@@ -196,7 +196,7 @@ fn in_place(gap: usize, taken: usize, piece: &[u8], window: &mut [u8], output: &
 
 // Turn after turn over the held bytes, until a message is settled, all of the piece is taken, or no byte is held and the piece can be divided. At the end
 // of the stream there is no piece.
-fn divide(
+fn turns(
     ended: bool,
     mut held: usize,
     mut gap: usize,
@@ -246,6 +246,25 @@ fn divide(
             }
         }
     }
+}
+
+// A call, from the bytes held on: where there are none, the piece is divided at once.
+fn divide(
+    ended: bool,
+    held: usize,
+    gap: usize,
+    piece: &[u8],
+    window: &mut [u8],
+    output: &mut [u8],
+) -> Counted
+    requires { ⌜ ((held ≤ 6136) × (6136 ≤ length (now window)) × (6136 ≤ length (now output)) × (gap + held + length (now piece) ≤ 2 ^ 48)) × (ended ≡ true → length (now piece) ≡ 0) ⌝ }
+    ensures { λ r. ⌜ CameTo (fed (now (piece .entry)) (scan ended (take held (now (window .entry))) gap)) (now (piece .entry)) (now (window .entry)) (now (output .entry)) (r .outcome) (now (window .exit)) (now (output .exit))
+        × Tested gap (take held (now (window .entry)) ++ now (piece .entry)) (r .outcome) (r .summed) ⌝ }
+{
+    if held == 0 {
+        return in_place(gap, 0, piece, window, output);
+    }
+    turns(ended, held, gap, piece, window, output)
 }
 
 // ---- replies
