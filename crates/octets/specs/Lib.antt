@@ -1,4 +1,5 @@
 pub mod Checksum
+pub mod Steps
 pub mod Numbers
 pub mod Parts
 pub mod Begins

@@ -2,15 +2,16 @@
 // Every function here takes all inputs; what each answers is a definition of specs/.
 ghost use mathlib.Core.Path.{_≡_};
 ghost use mathlib.Core.Logic.{_⊎_};
-ghost use Prim.Native.Nat.{_*_, _<_, _≤_, _%_, _^_};
+ghost use Prim.Native.Nat.{_+_, _*_, _<_, _≤_, _%_, _^_};
 ghost use lib.IntN.{negsuc};
 ghost use lib.ListN.{length, take, replicate};
 ghost use lib.Signed.{mag};
 ghost use Rattle.octets.specs.Begins.{common, fit, begins};
-ghost use Rattle.octets.specs.Checksum.{summedOf};
+ghost use Rattle.octets.specs.Checksum.{checksumOf, summedOf};
 ghost use Rattle.octets.specs.Numbers.{number, bytesOf};
-ghost use Rattle.octets.specs.Parts.{over};
+ghost use Rattle.octets.specs.Parts.{part, over};
 ghost use Rattle.octets.specs.Signed.{half, signedOf, rawOf};
+ghost use Rattle.octets.specs.Steps.{SummedTo};
 
 // How a slice begins: with all of a string, with a part of it and nothing more yet, or with a byte that contradicts it.
 pub enum Fit {
@@ -25,12 +26,38 @@ pub struct Summed {
     pub count: usize,
 }
 
+// The exclusive or of the 256 bytes from `at` on. The loop has no way out, so that it is done in vectors.
+fn sum_block(s: &[u8], at: usize) -> u8
+    requires { ⌜ at + 256 ≤ length (now s) ⌝ }
+    ensures { λ r. ⌜ r ≡ checksumOf (part at 256 (now (s .entry))) ⌝ }
+{
+    let mut value: u8 = 0;
+    for i in 0..256usize {
+        value = value ^ s[at + i];
+    }
+    value
+}
+
+// Whole blocks, and the bytes in them: what is left of the checksum is that of the bytes behind.
+fn sum_blocks(s: &[u8]) -> Summed
+    ensures { λ r. ⌜ SummedTo (now (s .entry)) (r .value) (r .count) ⌝ }
+{
+    let mut value: u8 = 0;
+    let mut count = 0;
+    while 256 <= s.len() - count {
+        value = value ^ sum_block(s, count);
+        count += 256;
+    }
+    Summed { value, count }
+}
+
 // The exclusive or of every byte, each counted as it goes through.
 pub fn checksum(s: &[u8]) -> Summed
     ensures { λ r. ⌜ r ≡ summedOf (now (s .entry)) ⌝ }
 {
-    let mut value: u8 = 0;
-    let mut count = 0;
+    let blocks = sum_blocks(s);
+    let mut value = blocks.value;
+    let mut count = blocks.count;
     while count < s.len() {
         value = value ^ s[count];
         count += 1;
