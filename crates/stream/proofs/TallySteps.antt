@@ -16,7 +16,7 @@ use Rattle.division.specs.Work.{testedIn}
 use Rattle.division.proofs.TestedSteps.{tested-split, tested-most-in}
 use Rattle.stream.specs.declared.Outcome.{Outcome}
 use Rattle.stream.specs.declared.Outcome.the-variants.{Message, Nothing}
-use Rattle.stream.specs.Scan.{got, stop, scan}
+use Rattle.stream.specs.Scan.{got, stop}
 use Rattle.stream.specs.Steps.{Pulled, settledIn, Tested}
 use Rattle.stream.proofs.ScanLaws.{TestedStays, tested-stays}
 use Rattle.stream.proofs.WindowSteps.{tail}

@@ -1,7 +1,7 @@
 -- What the private steps of the reader say of each other: no public contract cites these. Definitions only.
 use Prim.Native.Nat.{ℕ, suc, _+_, _-_, _≤_}
 use mathlib.Core.Path.{_≡_}
-use mathlib.Core.Bool.{Bool, cond}
+use mathlib.Core.Bool.{Bool, true, cond}
 use mathlib.Core.List.{List, _++_}
 use lib.ListN.{length, take, drop}
 use mir.Val.{boolByte}
@@ -15,7 +15,8 @@ use Rattle.stream.specs.declared.Reply.{Reply}
 use Rattle.stream.specs.declared.Counted.{Counted}
 use Rattle.stream.specs.declared.Outcome.{Outcome}
 use Rattle.stream.specs.declared.Outcome.the-variants.{Message, Nothing}
-use Rattle.stream.specs.Feed.{Fed, given, more}
+use Rattle.stream.specs.Scan.{scan}
+use Rattle.stream.specs.Feed.{Fed, given, more, fed}
 use Rattle.stream.specs.Reader.{room, limit, mostSummed}
 
 -- what the checks let through
@@ -61,6 +62,15 @@ settledIn g₀ (Nothing g t h) = g - g₀
 pub record Tested (g₀ : ℕ) (xs : List ℕ) (x : Outcome) (summed : ℕ) : Type 0 where
   pub from-on : g₀ ≤ gapIn x
   pub sum : summed ≡ testedIn (settledIn g₀ x) xs
+
+-- ---- a call that was let through, from the bytes held on; at the end of the stream there is no piece
+abbrev pub Begun : Bool → ℕ → ℕ → List ℕ → List ℕ → List ℕ → Type 0
+Begun ended held gap p w o = ((held ≤ room) × (room ≤ length w) × (room ≤ length o) × (gap + held + length p ≤ limit)) × (ended ≡ true → length p ≡ 0)
+
+-- what it comes to, and the bytes that it has run through the checksum
+abbrev pub Divided : Bool → ℕ → ℕ → List ℕ → List ℕ → List ℕ → Counted → List ℕ → List ℕ → Type 0
+Divided ended held gap p w o r w′ o′ =
+    CameTo (fed p (scan ended (take held w) gap)) p w o (r .outcome) w′ o′ × Tested gap (take held w ++ p) (r .outcome) (r .summed)
 
 -- ---- the reply to it, of a finish or of a feed
 abbrev pub noMessage : Bool → ℕ → Answer

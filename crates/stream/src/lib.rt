@@ -5,17 +5,15 @@ use front::Claim;
 use refusal::Refusal;
 ghost use mathlib.Core.Path.{_≡_};
 ghost use mathlib.Core.List.{[], _++_};
-ghost use mathlib.Core.Bool.{true};
 ghost use Prim.Native.Nat.{_+_, _-_, _^_, _<_, _≤_};
 ghost use lib.ListN.{length, take, drop, replicate};
 ghost use lib.Seq.{paste};
 ghost use mir.Val.{boolByte};
 ghost use Rattle.octets.specs.Parts.{over};
 ghost use Rattle.front.specs.Look.{need};
-ghost use Rattle.stream.specs.Scan.{scan};
-ghost use Rattle.stream.specs.Feed.{fed, feed};
+ghost use Rattle.stream.specs.Feed.{feed};
 ghost use Rattle.stream.specs.Reader.{freshState, bad, feedChecked, feedCall, finishCall, Leaves};
-ghost use Rattle.stream.specs.Steps.{Pulled, CameTo, Tested, noMessage, replyTo, replyAfter};
+ghost use Rattle.stream.specs.Steps.{Pulled, CameTo, Tested, Begun, Divided, noMessage, replyTo, replyAfter};
 
 // The bytes held in the window, the gap bytes before them, all bytes taken, whether the end was announced (0, or anything else), and all bytes
 // run through the checksum.
@@ -204,9 +202,8 @@ fn turns(
     window: &mut [u8],
     output: &mut [u8],
 ) -> Counted
-    requires { ⌜ ((held ≤ 6136) × (6136 ≤ length (now window)) × (6136 ≤ length (now output)) × (gap + held + length (now piece) ≤ 2 ^ 48)) × (ended ≡ true → length (now piece) ≡ 0) ⌝ }
-    ensures { λ r. ⌜ CameTo (fed (now (piece .entry)) (scan ended (take held (now (window .entry))) gap)) (now (piece .entry)) (now (window .entry)) (now (output .entry)) (r .outcome) (now (window .exit)) (now (output .exit))
-        × Tested gap (take held (now (window .entry)) ++ now (piece .entry)) (r .outcome) (r .summed) ⌝ }
+    requires { ⌜ Begun ended held gap (now piece) (now window) (now output) ⌝ }
+    ensures { λ r. ⌜ Divided ended held gap (now (piece .entry)) (now (window .entry)) (now (output .entry)) r (now (window .exit)) (now (output .exit)) ⌝ }
 {
     let mut taken = 0;
     let mut summed = 0;
@@ -257,9 +254,8 @@ fn divide(
     window: &mut [u8],
     output: &mut [u8],
 ) -> Counted
-    requires { ⌜ ((held ≤ 6136) × (6136 ≤ length (now window)) × (6136 ≤ length (now output)) × (gap + held + length (now piece) ≤ 2 ^ 48)) × (ended ≡ true → length (now piece) ≡ 0) ⌝ }
-    ensures { λ r. ⌜ CameTo (fed (now (piece .entry)) (scan ended (take held (now (window .entry))) gap)) (now (piece .entry)) (now (window .entry)) (now (output .entry)) (r .outcome) (now (window .exit)) (now (output .exit))
-        × Tested gap (take held (now (window .entry)) ++ now (piece .entry)) (r .outcome) (r .summed) ⌝ }
+    requires { ⌜ Begun ended held gap (now piece) (now window) (now output) ⌝ }
+    ensures { λ r. ⌜ Divided ended held gap (now (piece .entry)) (now (window .entry)) (now (output .entry)) r (now (window .exit)) (now (output .exit)) ⌝ }
 {
     if held == 0 {
         return in_place(gap, 0, piece, window, output);

@@ -1,7 +1,6 @@
 -- `octets::checksum` meets its contract: the loop carries the checksum of the bytes passed. Assumes nothing.
 use Prim.Native.Nat.{_-_}
 use lib.ListN.{length}
-use native.Mathlib.Omega.{arith}
 use Rattle.octets.specs.Steps.{SummedTo}
 use Rattle.octets.proofs.ChecksumSteps.{summed-one, summed-all}
 use borrow.Author.Needs.{needs}
