@@ -31,6 +31,7 @@ pub mod Tested
 pub mod SyncApart
 pub mod WorkSteps
 pub mod WorkBound
+pub mod WorkOver
 pub mod WorkReached
 pub mod WorkLeft
 pub mod RunRight

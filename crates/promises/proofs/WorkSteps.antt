@@ -13,11 +13,11 @@ use Rattle.division.proofs.DivideSteps.{divide-nil, divide-gap, divide-message}
 use Rattle.promises.proofs.Stands.{stands-le}
 
 -- ---- a gap byte more in front
-abbrev later : Division → Division
+abbrev pub later : Division → Division
 later (last g) = last (suc g)
 later (part g m d) = part (suc g) m d
 
-divide-later : (xs : List ℕ) (g : ℕ) → divide xs (suc g) ≡ later (divide xs g)
+pub divide-later : (xs : List ℕ) (g : ℕ) → divide xs (suc g) ≡ later (divide xs g)
 divide-later [] g = divide-nil (suc g) ∙ ap later (sym (divide-nil g))
 divide-later (x ∷ xs) g = go (stands (x ∷ xs)) refl (divide-later xs (suc g))
   where

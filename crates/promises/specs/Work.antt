@@ -1,10 +1,23 @@
--- Where sync strings stand in a stream, and a stream that is crowded with them. Definitions only.
-use Prim.Native.Nat.{ℕ, zero, suc}
+-- What each position of a stream has run through the checksum, where sync strings stand, and a stream that is crowded with them. Definitions only.
+use Prim.Native.Nat.{ℕ, zero, suc, _+_}
 use mathlib.Core.Path.{_≡_}
+use mathlib.Core.Bool.{cond}
 use mathlib.Core.List.{List, [], _∷_}
 use lib.ListN.{take, drop}
+use lib.Dec.{eqb}
 use Rattle.macm.specs.declared.Form.{Form}
+use Rattle.front.specs.Look.{tested}
+use Rattle.reason.specs.Reason.{coverOf}
 use Rattle.promises.specs.Reason.{syncOf}
+
+-- the bytes that position p has run through the checksum: none where a message given earlier covers it
+abbrev pub testedAt : List ℕ → ℕ → ℕ
+testedAt s p = cond (eqb (coverOf s p) p) (tested (drop p s)) 0
+
+-- the sum over n positions from the first on
+unfoldable pub sumOver : ℕ → (ℕ → ℕ) → ℕ
+sumOver zero f = 0
+sumOver (suc n) f = f 0 + sumOver n (λ i. f (suc i))
 
 -- MAC2 or MACM stands at position i
 abbrev pub SyncAt : List ℕ → ℕ → Type 0
