@@ -61,7 +61,7 @@ struct Counted {
 
 // ---- what is refused
 
-// A state that no call leaves.
+// A state that no call leaves, or whose count of bytes summed is past its limit.
 fn bad_state(held: u64, gap: u64, total: u64, summed: u64) -> bool
     ensures { λ r. ⌜ r ≡ bad held gap total summed ⌝ }
 {
