@@ -180,21 +180,22 @@ module _ (e : Bool) (h₀ g₀ : ℕ) (w₀ o₀ p : List ℕ) (h g t : ℕ) (w 
       pub turn-inside : k + n ≤ h
       turn-inside = let m = found-message e (take h w) r z k n u q in omega (arith, m .counted, m .within, length-held)
 
-      pub turn-ends : Fits w64 (k + n) × (k + n + (h - (k + n)) ≤ length w) × Fits w64 (g + k)
-      turn-ends =
-          (record { fits = omega (arith, turn-inside, f .room) }, omega (arith, turn-inside, filling-held), record { fits = omega (arith, turn-inside, f .sums, f .within) })
+      pub turn-hands : (k + n ≤ h) × (h ≤ length w) × (h < 2 ^ 64) × (n ≤ length o)
+      turn-hands = (turn-inside, filling-held, omega (arith, f .room), omega (arith, turn-inside, f .room, f .same-output))
 
-      pub turn-message : (k ≤ k + n) × (k + n ≤ length w) × (k + n - k ≤ length o)
-      turn-message = (omega arith, omega (arith, turn-inside, filling-held), omega (arith, turn-inside, f .room, f .same-output))
+      pub turn-message-gap : Fits w64 (g + k)
+      turn-message-gap = record { fits = omega (arith, turn-inside, f .sums, f .within) }
 
       pub gives : scan e (take h w) g ≡ got (g + k) n (drop k (take h w))
       gives = let m = found-message e (take h w) r z k n u q in let y : m .ahead ≡ k = omega (arith, m .counted) in m .is g ∙ rw y
 
-      pub turn-given : (w′ o′ : List ℕ) → o′ ≡ over (take (k + n - k) (drop k w)) o → w′ ≡ paste w 0 (drop (k + n) w) (h - (k + n)) → CameTo Come p w₀ o₀ (Message n (g + k) t (h - (k + n))) w′ o′
-      turn-given w′ o′ a b =
-          let v = gave-held k n h w o o′ w′ turn-inside filling-held a b in
-          same-came Come Come p w₀ w₀ o o₀ (Message n (g + k) t (h - (k + n))) w′ o′ refl refl (f .output)
-          (came-given Come p w₀ w o k n (g + k) t (take h w) (h - (k + n)) w′ o′ (f .feeds ∙ ap (fed (drop t p)) gives ∙ fed-got _ _ _ _) (omega (arith, turn-inside, length-held)) (f .within) (omega (arith, length-held, f .room)) (f .same) v)
+      pub turn-given : (l : ℕ) (w′ o′ : List ℕ) → (l ≡ h - (k + n)) × (o′ ≡ over (take n (drop k w)) o) × (w′ ≡ paste w 0 (drop (k + n) w) (h - (k + n))) → CameTo Come p w₀ o₀ (Message n (g + k) t l) w′ o′
+      turn-given l w′ o′ a =
+          let z : n ≡ k + n - k = omega arith in
+          let v = gave-held k n h w o o′ w′ turn-inside filling-held (a .1 ∙ ap (λ i. over (take i (drop k w)) o) z) (a .2) in
+          rw (a .0)
+          (same-came Come Come p w₀ w₀ o o₀ (Message n (g + k) t (h - (k + n))) w′ o′ refl refl (f .output)
+          (came-given Come p w₀ w o k n (g + k) t (take h w) (h - (k + n)) w′ o′ (f .feeds ∙ ap (fed (drop t p)) gives ∙ fed-got _ _ _ _) (omega (arith, turn-inside, length-held)) (f .within) (omega (arith, length-held, f .room)) (f .same) v))
 
     module _ (k : ℕ) (q : r ≡ Unsettled k) where
       pub stops : scan e (take h w) g ≡ stop (g + k) (drop k (take h w))

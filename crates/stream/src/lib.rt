@@ -162,6 +162,33 @@ fn pull(from: usize, n: usize, taken: usize, piece: &[u8], window: &mut [u8]) ->
     more
 }
 
+fn comes_to(outcome: Outcome, summed: usize) -> Counted
+    ensures { λ r. ⌜ r ≡ record { outcome = outcome; summed = summed } ⌝ }
+{
+    Counted { outcome, summed }
+}
+
+// With the bytes that were summed before.
+fn added(summed: usize, rest: Counted) -> Counted
+    requires { ⌜ summed + rest .summed < 2 ^ 64 ⌝ }
+    ensures { λ r. ⌜ r ≡ record { outcome = rest .outcome; summed = summed + rest .summed } ⌝ }
+{
+    let outcome = rest.outcome;
+    comes_to(outcome, summed + rest.summed)
+}
+
+// The message of `size` bytes at `at` goes to the output, and the bytes held behind it to the window's front; answers how many these are.
+fn hand_over(at: usize, size: usize, held: usize, window: &mut [u8], output: &mut [u8]) -> usize
+    requires { ⌜ (at + size ≤ held) × (held ≤ length (now window)) × (held < 2 ^ 64) × (size ≤ length (now output)) ⌝ }
+    ensures { λ r. ⌜ (r ≡ held - (at + size)) × (now (output .exit) ≡ over (take size (drop at (now (window .entry)))) (now (output .entry))) × (now (window .exit) ≡ paste (now (window .entry)) 0 (drop (at + size) (now (window .entry))) (held - (at + size))) ⌝ }
+{
+    let end = at + size;
+    let left = held - end;
+    copy_part(window, at, end, output);
+    shift(window, end, left);
+    left
+}
+
 // The rest of a feed once `taken` bytes of the piece are taken, nothing is held and `gap` bytes stand before: the piece is divided where it stands.
 fn in_place(gap: usize, taken: usize, piece: &[u8], window: &mut [u8], output: &mut [u8]) -> Counted
     requires { ⌜ (taken ≤ length (now piece)) × (6136 ≤ length (now window)) × (6136 ≤ length (now output)) × (gap + length (now piece) ≤ 2 ^ 49) ⌝ }
@@ -213,30 +240,19 @@ fn turns(
         summed = summed + passage.summed;
         match walked {
             Walked::Message(at, length, _) => {
-                let end = at + length;
-                let left = held - end;
-                copy_part(window, at, end, output);
-                shift(window, end, left);
-                return Counted {
-                    outcome: Outcome::Message(length, gap + at, taken, left),
-                    summed,
-                };
+                let left = hand_over(at, length, held, window, output);
+                return comes_to(Outcome::Message(length, gap + at, taken, left), summed);
             }
             Walked::Unsettled(at) => {
                 held = held - at;
                 gap = gap + at;
                 if held == 0 {
                     let rest = in_place(gap, taken, piece, window, output);
-                    let outcome = rest.outcome;
-                    summed = summed + rest.summed;
-                    return Counted { outcome, summed };
+                    return added(summed, rest);
                 }
                 let more = pull(at, held, taken, piece, window);
                 if more == 0 {
-                    return Counted {
-                        outcome: Outcome::Nothing(gap, taken, held),
-                        summed,
-                    };
+                    return comes_to(Outcome::Nothing(gap, taken, held), summed);
                 }
                 held = held + more;
                 taken = taken + more;

@@ -4,8 +4,7 @@ use mathlib.Core.Path.{sym, ap}
 use mathlib.Core.List.{_++_}
 use lib.ListN.{length, take, drop}
 use lib.Seq.{length-take-le}
-use native.Mathlib.Omega.{arith}
-use Rattle.stream.proofs.TurnSteps.{Filling, filling-begins, filling-held, turn-inside, turn-ends, turn-message, turn-given, turn-within, turn-gap, turn-place-fits, turn-place, turn-pull-fits, turn-more, turn-on, turn-on-fits, turn-less}
+use Rattle.stream.proofs.TurnSteps.{Filling, filling-begins, filling-held, turn-hands, turn-message-gap, turn-given, turn-within, turn-gap, turn-place-fits, turn-place, turn-pull-fits, turn-more, turn-on, turn-on-fits, turn-less}
 use Rattle.stream.proofs.TallySteps.{Tallied, tallied-begins, turn-adds, turn-tested, turn-more-tested, turn-place-adds, turn-place-tested, turn-on-tallied}
 use borrow.Author.Needs.{needs}
 use Rattle.stream.proofs.turns.Statement.{statement}
@@ -51,57 +50,42 @@ add-summed c =
 enum-known-walked : tie.Need-enum-known-walked Inv-loop μ-loop
 enum-known-walked c = search needs
 
-add-end : tie.Need-add-end Inv-loop μ-loop
-add-end c =
-    let loop = c .before .before .before .before .before .before .loop in
-    let start = c .before .before .before .before .before .before .before .before .before .before in
-    let x = start .args in
-    turn-ends (x .ended) (x .held) (x .gap) (x .window .now) (x .output .now) (x .piece .now) (loop .held) (loop .gap) (loop .taken) (loop .window) (loop .output) (loop .inv .0) (start .pre .0) _ (ap (λ r. r .walked) (c .before .before .before .before .walk .ensures)) _ _ _ (c .before .walked .given .1) .0
-
-sub-left : tie.Need-sub-left Inv-loop μ-loop
-sub-left c =
-    let loop = c .before .before .before .before .before .before .loop in
-    let start = c .before .before .before .before .before .before .before .before .before .before in
-    let x = start .args in
-    turn-inside (x .ended) (x .held) (x .gap) (x .window .now) (x .output .now) (x .piece .now) (loop .held) (loop .gap) (loop .taken) (loop .window) (loop .output) (loop .inv .0) (start .pre .0) _ (ap (λ r. r .walked) (c .before .before .before .before .walk .ensures)) _ _ _ (c .before .walked .given .1)
-
-copy-part-requires : tie.Need-copy-part-requires Inv-loop μ-loop
-copy-part-requires c κs =
+hand-over-requires : tie.Need-hand-over-requires Inv-loop μ-loop
+hand-over-requires c κs =
     let loop = c .before .before .before .before .before .before .before .before .loop in
     let start = c .before .before .before .before .before .before .before .before .before .before .before .before in
     let x = start .args in
-    turn-message (x .ended) (x .held) (x .gap) (x .window .now) (x .output .now) (x .piece .now) (loop .held) (loop .gap) (loop .taken) (loop .window) (loop .output) (loop .inv .0) (start .pre .0) _ (ap (λ r. r .walked) (c .before .before .before .before .before .before .walk .ensures)) _ _ _ (c .before .before .before .walked .given .1)
+    turn-hands (x .ended) (x .held) (x .gap) (x .window .now) (x .output .now) (x .piece .now) (loop .held) (loop .gap) (loop .taken) (loop .window) (loop .output) (loop .inv .0) (start .pre .0) _ (ap (λ r. r .walked) (c .before .before .before .before .before .before .walk .ensures)) _ _ _ (c .before .before .before .walked .given .1)
 
-shift-requires : tie.Need-shift-requires Inv-loop μ-loop
-shift-requires c κs =
-    let loop = c .before .before .before .before .before .before .before .before .before .before .before .before .loop in
-    let start = c .before .before .before .before .before .before .before .before .before .before .before .before .before .before .before .before in
+add-t23 : tie.Need-add-t23 Inv-loop μ-loop
+add-t23 c =
+    let loop = c .before .before .before .before .before .before .before .before .before .before .before .before .before .loop in
+    let start = c .before .before .before .before .before .before .before .before .before .before .before .before .before .before .before .before .before in
     let x = start .args in
-    omega (arith, turn-ends (x .ended) (x .held) (x .gap) (x .window .now) (x .output .now) (x .piece .now) (loop .held) (loop .gap) (loop .taken) (loop .window) (loop .output) (loop .inv .0) (start .pre .0) _ (ap (λ r. r .walked) (c .before .before .before .before .before .before .before .before .before .before .walk .ensures)) _ _ _ (c .before .before .before .before .before .before .before .walked .given .1) .1)
+    turn-message-gap (x .ended) (x .held) (x .gap) (x .window .now) (x .output .now) (x .piece .now) (loop .held) (loop .gap) (loop .taken) (loop .window) (loop .output) (loop .inv .0) (start .pre .0) _ (ap (λ r. r .walked) (c .before .before .before .before .before .before .before .before .before .before .before .walk .ensures)) _ _ _ (c .before .before .before .before .before .before .before .before .walked .given .1)
 
-add-t28 : tie.Need-add-t28 Inv-loop μ-loop
-add-t28 c =
-    let loop = c .before .before .before .before .before .before .before .before .before .before .before .before .before .before .before .loop in
-    let start = c .before .before .before .before .before .before .before .before .before .before .before .before .before .before .before .before .before .before .before in
-    let x = start .args in
-    omega (arith, turn-inside (x .ended) (x .held) (x .gap) (x .window .now) (x .output .now) (x .piece .now) (loop .held) (loop .gap) (loop .taken) (loop .window) (loop .output) (loop .inv .0) (start .pre .0) _ (ap (λ r. r .walked) (c .before .before .before .before .before .before .before .before .before .before .before .before .before .walk .ensures)) _ _ _ (c .before .before .before .before .before .before .before .before .before .before .walked .given .1), loop .inv, start .pre)
+comes-to-requires : tie.Need-comes-to-requires Inv-loop μ-loop
+comes-to-requires c κs = search needs
 
 same-length : tie.Need-same-length Inv-loop μ-loop
 same-length c =
-    let loop = c .before .before .before .before .before .before .before .before .before .before .before .before .before .before .before .loop in
-    let start = c .before .before .before .before .before .before .before .before .before .before .before .before .before .before .before .before .before .before .before in
+    let loop = c .before .before .before .before .before .before .before .before .before .before .before .before .before .before .loop in
+    let start = c .before .before .before .before .before .before .before .before .before .before .before .before .before .before .before .before .before .before in
     let x = start .args in
-    turn-given (x .ended) (x .held) (x .gap) (x .window .now) (x .output .now) (x .piece .now) (loop .held) (loop .gap) (loop .taken) (loop .window) (loop .output) (loop .inv .0) (start .pre .0) _ (ap (λ r. r .walked) (c .before .before .before .before .before .before .before .before .before .before .before .before .before .walk .ensures)) _ _ _ (c .before .before .before .before .before .before .before .before .before .before .walked .given .1) _ _ (c .before .before .before .before .before .before .copy-part .ensures) (c .before .before .shift .ensures) .same
+    turn-given (x .ended) (x .held) (x .gap) (x .window .now) (x .output .now) (x .piece .now) (loop .held) (loop .gap) (loop .taken) (loop .window) (loop .output) (loop .inv .0) (start .pre .0) _ (ap (λ r. r .walked) (c .before .before .before .before .before .before .before .before .before .before .before .before .walk .ensures)) _ _ _ (c .before .before .before .before .before .before .before .before .before .walked .given .1) _ _ _ (c .before .before .before .before .before .hand-over .ensures) .same
 
 same-length-2 : tie.Need-same-length-2 Inv-loop μ-loop
 same-length-2 c = search needs
 
 returns : tie.Need-returns Inv-loop μ-loop
 returns c =
-    let loop = c .before .before .before .before .before .before .before .before .before .before .before .before .before .before .before .loop in
-    let start = c .before .before .before .before .before .before .before .before .before .before .before .before .before .before .before .before .before .before .before in
+    let loop = c .before .before .before .before .before .before .before .before .before .before .before .before .before .before .loop in
+    let start = c .before .before .before .before .before .before .before .before .before .before .before .before .before .before .before .before .before .before in
     let x = start .args in
-    (turn-given (x .ended) (x .held) (x .gap) (x .window .now) (x .output .now) (x .piece .now) (loop .held) (loop .gap) (loop .taken) (loop .window) (loop .output) (loop .inv .0) (start .pre .0) _ (ap (λ r. r .walked) (c .before .before .before .before .before .before .before .before .before .before .before .before .before .walk .ensures)) _ _ _ (c .before .before .before .before .before .before .before .before .before .before .walked .given .1) _ _ (c .before .before .before .before .before .before .copy-part .ensures) (c .before .before .shift .ensures), turn-tested (x .ended) (x .held) (x .gap) (x .window .now) (x .output .now) (x .piece .now) (loop .held) (loop .gap) (loop .taken) (loop .window) (loop .output) (loop .inv .0) (start .pre .0) (start .pre .1) (loop .summed) (loop .inv .1) _ (c .before .before .before .before .before .before .before .before .before .before .before .before .before .walk .ensures) _ _ _ (c .before .before .before .before .before .before .before .before .before .before .walked .given .1) _)
+    rw (c .comes-to .ensures) (
+      turn-given (x .ended) (x .held) (x .gap) (x .window .now) (x .output .now) (x .piece .now) (loop .held) (loop .gap) (loop .taken) (loop .window) (loop .output) (loop .inv .0) (start .pre .0) _ (ap (λ r. r .walked) (c .before .before .before .before .before .before .before .before .before .before .before .before .walk .ensures)) _ _ _ (c .before .before .before .before .before .before .before .before .before .walked .given .1) _ _ _ (c .before .before .before .before .before .hand-over .ensures),
+      turn-tested (x .ended) (x .held) (x .gap) (x .window .now) (x .output .now) (x .piece .now) (loop .held) (loop .gap) (loop .taken) (loop .window) (loop .output) (loop .inv .0) (start .pre .0) (start .pre .1) (loop .summed) (loop .inv .1) _ (c .before .before .before .before .before .before .before .before .before .before .before .before .walk .ensures) _ _ _ (c .before .before .before .before .before .before .before .before .before .walked .given .1) _,
+    )
 
 enum-known-walked-2 : tie.Need-enum-known-walked-2 Inv-loop μ-loop
 enum-known-walked-2 c = search needs
@@ -127,12 +111,12 @@ in-place-requires c κs =
     let x = start .args in
     turn-place-fits (x .ended) (x .held) (x .gap) (x .window .now) (x .output .now) (x .piece .now) (loop .held) (loop .gap) (loop .taken) (loop .window) (loop .output) (loop .inv .0) (start .pre .0) _ (ap (λ r. r .walked) (c .before .before .before .before .before .before .before .walk .ensures)) _ (c .before .before .before .before .walked2 .given .1)
 
-add-summed-2 : tie.Need-add-summed-2 Inv-loop μ-loop
-add-summed-2 c =
-    let loop = c .before .before .before .before .before .before .before .before .before .before .before .before .before .before .before .loop in
-    let start = c .before .before .before .before .before .before .before .before .before .before .before .before .before .before .before .before .before .before .before in
+added-requires : tie.Need-added-requires Inv-loop μ-loop
+added-requires c κs =
+    let loop = c .before .before .before .before .before .before .before .before .before .before .before .before .before .before .loop in
+    let start = c .before .before .before .before .before .before .before .before .before .before .before .before .before .before .before .before .before .before in
     let x = start .args in
-    turn-place-adds (x .ended) (x .held) (x .gap) (x .window .now) (x .output .now) (x .piece .now) (loop .held) (loop .gap) (loop .taken) (loop .window) (loop .output) (loop .inv .0) (start .pre .0) (start .pre .1) (loop .summed) (loop .inv .1) _ (c .before .before .before .before .before .before .before .before .before .before .before .before .before .walk .ensures) _ (c .before .before .before .before .before .before .before .before .before .before .walked2 .given .1) _ _ (c .before .before .before .before .before .in-place .ensures .1)
+    turn-place-adds (x .ended) (x .held) (x .gap) (x .window .now) (x .output .now) (x .piece .now) (loop .held) (loop .gap) (loop .taken) (loop .window) (loop .output) (loop .inv .0) (start .pre .0) (start .pre .1) (loop .summed) (loop .inv .1) _ (c .before .before .before .before .before .before .before .before .before .before .before .before .walk .ensures) _ (c .before .before .before .before .before .before .before .before .before .walked2 .given .1) _ _ (c .before .before .before .before .in-place .ensures .1) .fits
 
 same-length-3 : tie.Need-same-length-3 Inv-loop μ-loop
 same-length-3 c = search needs
@@ -144,7 +128,8 @@ returns-2 : tie.Need-returns-2 Inv-loop μ-loop
 returns-2 c =
     let loop = c .before .before .before .before .before .before .before .before .before .before .before .before .before .before .before .loop in
     let start = c .before .before .before .before .before .before .before .before .before .before .before .before .before .before .before .before .before .before .before in
-    let x = start .args in (
+    let x = start .args in
+    rw (c .added .ensures) (
       turn-place (x .ended) (x .held) (x .gap) (x .window .now) (x .output .now) (x .piece .now) (loop .held) (loop .gap) (loop .taken) (loop .window) (loop .output) (loop .inv .0) (start .pre .0) _ (ap (λ r. r .walked) (c .before .before .before .before .before .before .before .before .before .before .before .before .before .walk .ensures)) _ (c .before .before .before .before .before .before .before .before .before .before .walked2 .given .1) (c .before .before .before .before .before .before .before .before .if1 .taken) (c .before .before .before .before .before .in-place .result .outcome) (c .before .before .before .before .before .in-place .last .1 .1 .1 .0) (c .before .before .before .before .before .in-place .last .1 .1 .1 .1 .0) (c .before .before .before .before .before .in-place .ensures .0),
       turn-place-tested (x .ended) (x .held) (x .gap) (x .window .now) (x .output .now) (x .piece .now) (loop .held) (loop .gap) (loop .taken) (loop .window) (loop .output) (loop .inv .0) (start .pre .0) (start .pre .1) (loop .summed) (loop .inv .1) _ (c .before .before .before .before .before .before .before .before .before .before .before .before .before .walk .ensures) _ (c .before .before .before .before .before .before .before .before .before .before .walked2 .given .1) _ _ (c .before .before .before .before .before .in-place .ensures .1) (c .before .before .before .before .before .before .before .before .if1 .taken),
     )
@@ -156,22 +141,28 @@ pull-requires c κs =
     let x = start .args in
     turn-pull-fits (x .ended) (x .held) (x .gap) (x .window .now) (x .output .now) (x .piece .now) (loop .held) (loop .gap) (loop .taken) (loop .window) (loop .output) (loop .inv .0) (start .pre .0) _ (ap (λ r. r .walked) (c .before .before .before .before .before .before .walk .ensures)) _ (c .before .before .before .walked2 .given .1) (c .before .if1 .left)
 
+comes-to-requires-2 : tie.Need-comes-to-requires-2 Inv-loop μ-loop
+comes-to-requires-2 c κs = search needs
+
 same-length-5 : tie.Need-same-length-5 Inv-loop μ-loop
 same-length-5 c =
-    let loop = c .before .before .before .before .before .before .before .before .before .before .before .before .loop in
-    let start = c .before .before .before .before .before .before .before .before .before .before .before .before .before .before .before .before in
+    let loop = c .before .before .before .before .before .before .before .before .before .before .before .before .before .loop in
+    let start = c .before .before .before .before .before .before .before .before .before .before .before .before .before .before .before .before .before in
     let x = start .args in
-    turn-more (x .ended) (x .held) (x .gap) (x .window .now) (x .output .now) (x .piece .now) (loop .held) (loop .gap) (loop .taken) (loop .window) (loop .output) (loop .inv .0) (start .pre .0) _ (ap (λ r. r .walked) (c .before .before .before .before .before .before .before .before .before .before .walk .ensures)) _ (c .before .before .before .before .before .before .before .walked2 .given .1) (c .before .before .before .before .before .if1 .left) _ _ (c .before .before .before .pull .ensures) (c .if2 .taken) .3
+    turn-more (x .ended) (x .held) (x .gap) (x .window .now) (x .output .now) (x .piece .now) (loop .held) (loop .gap) (loop .taken) (loop .window) (loop .output) (loop .inv .0) (start .pre .0) _ (ap (λ r. r .walked) (c .before .before .before .before .before .before .before .before .before .before .before .walk .ensures)) _ (c .before .before .before .before .before .before .before .before .walked2 .given .1) (c .before .before .before .before .before .before .if1 .left) _ _ (c .before .before .before .before .pull .ensures) (c .before .if2 .taken) .3
 
 same-length-6 : tie.Need-same-length-6 Inv-loop μ-loop
-same-length-6 c = c .before .before .before .before .before .before .before .before .before .before .before .before .loop .inv .0 .same-output
+same-length-6 c = c .before .before .before .before .before .before .before .before .before .before .before .before .before .loop .inv .0 .same-output
 
 returns-3 : tie.Need-returns-3 Inv-loop μ-loop
 returns-3 c =
-    let loop = c .before .before .before .before .before .before .before .before .before .before .before .before .loop in
-    let start = c .before .before .before .before .before .before .before .before .before .before .before .before .before .before .before .before in
+    let loop = c .before .before .before .before .before .before .before .before .before .before .before .before .before .loop in
+    let start = c .before .before .before .before .before .before .before .before .before .before .before .before .before .before .before .before .before in
     let x = start .args in
-    (turn-more (x .ended) (x .held) (x .gap) (x .window .now) (x .output .now) (x .piece .now) (loop .held) (loop .gap) (loop .taken) (loop .window) (loop .output) (loop .inv .0) (start .pre .0) _ (ap (λ r. r .walked) (c .before .before .before .before .before .before .before .before .before .before .walk .ensures)) _ (c .before .before .before .before .before .before .before .walked2 .given .1) (c .before .before .before .before .before .if1 .left) _ _ (c .before .before .before .pull .ensures) (c .if2 .taken), turn-more-tested (x .ended) (x .held) (x .gap) (x .window .now) (x .output .now) (x .piece .now) (loop .held) (loop .gap) (loop .taken) (loop .window) (loop .output) (loop .inv .0) (start .pre .0) (start .pre .1) (loop .summed) (loop .inv .1) _ (c .before .before .before .before .before .before .before .before .before .before .walk .ensures) _ (c .before .before .before .before .before .before .before .walked2 .given .1) _ _)
+    rw (c .comes-to2 .ensures) (
+      turn-more (x .ended) (x .held) (x .gap) (x .window .now) (x .output .now) (x .piece .now) (loop .held) (loop .gap) (loop .taken) (loop .window) (loop .output) (loop .inv .0) (start .pre .0) _ (ap (λ r. r .walked) (c .before .before .before .before .before .before .before .before .before .before .before .walk .ensures)) _ (c .before .before .before .before .before .before .before .before .walked2 .given .1) (c .before .before .before .before .before .before .if1 .left) _ _ (c .before .before .before .before .pull .ensures) (c .before .if2 .taken),
+      turn-more-tested (x .ended) (x .held) (x .gap) (x .window .now) (x .output .now) (x .piece .now) (loop .held) (loop .gap) (loop .taken) (loop .window) (loop .output) (loop .inv .0) (start .pre .0) (start .pre .1) (loop .summed) (loop .inv .1) _ (c .before .before .before .before .before .before .before .before .before .before .before .walk .ensures) _ (c .before .before .before .before .before .before .before .before .walked2 .given .1) _ _,
+    )
 
 add-held : tie.Need-add-held Inv-loop μ-loop
 add-held c =
@@ -213,11 +204,9 @@ turns-spec =
     walk-requires
     add-summed
     enum-known-walked
-    add-end
-    sub-left
-    copy-part-requires
-    shift-requires
-    add-t28
+    hand-over-requires
+    add-t23
+    comes-to-requires
     same-length
     same-length-2
     returns
@@ -225,11 +214,12 @@ turns-spec =
     sub-held
     add-gap
     in-place-requires
-    add-summed-2
+    added-requires
     same-length-3
     same-length-4
     returns-2
     pull-requires
+    comes-to-requires-2
     same-length-5
     same-length-6
     returns-3
