@@ -19,6 +19,9 @@ unfolding checksumFrom
 checksum-on a [] ys = refl
 checksum-on a (x ∷ xs) ys = checksum-on (bitXor a x) xs ys
 
+pub block-count : (s : List ℕ) (at k : ℕ) → at + k ≤ length s → (b : Summed) → b ≡ summedOf (part at k s) → b .count ≡ k
+block-count s at k l b e = ap (λ r. r .count) e ∙ part-length s at k l
+
 module _ (s : List ℕ) where
   pub summed-none : SummedTo s 0 0
   summed-none = (omega arith, refl)
@@ -28,12 +31,13 @@ module _ (s : List ℕ) where
     unfolding checksumFrom
     summed-one l = (omega arith, h .1 ∙ rw (add-one, drop-cons s i 0))
 
-    pub summed-block : (k : ℕ) → i + k ≤ length s → (b : ℕ) → b ≡ checksumOf (part i k s) → SummedTo s (bitXor a b) (i + k)
-    summed-block k l b e = (
-      l,
-      h .1 ∙ ap (checksumFrom a) (sym (take-append-drop k (drop i s))) ∙ checksum-on a (part i k s) (drop k (drop i s))
-          ∙ ap (λ v. checksumFrom v (drop k (drop i s))) (checksum-from a (part i k s) ∙ ap (bitXor a) (sym e)) ∙ ap (checksumFrom (bitXor a b)) (drop-drop k i s),
-    )
+    pub summed-block : (k : ℕ) → i + k ≤ length s → (b : Summed) → b ≡ summedOf (part i k s) → SummedTo s (bitXor a (b .value)) (i + b .count)
+    summed-block k l b e =
+        rw (block-count s i k l b e) (
+          l,
+          h .1 ∙ ap (checksumFrom a) (sym (take-append-drop k (drop i s))) ∙ checksum-on a (part i k s) (drop k (drop i s))
+              ∙ ap (λ v. checksumFrom v (drop k (drop i s))) (checksum-from a (part i k s) ∙ ap (bitXor a) (sym (ap (λ r. r .value) e))) ∙ ap (checksumFrom (bitXor a (b .value))) (drop-drop k i s),
+        )
 
     pub summed-all : length s ≤ i → _≡_ {A = Summed} (record { value = a; count = i }) (summedOf s)
     unfolding checksumFrom
@@ -49,5 +53,5 @@ module _ (s : List ℕ) (at k : ℕ) (here : at + k ≤ length s) where
       let z : getD (part at k s) i 0 ≡ getD s (at + i) 0 = getD-take k (drop at s) i 0 l ∙ getD-drop at s i 0 in
       rw z at (summed-one (part at k s) a i h (omega (arith, part-length s at k here)))
 
-  pub block-all : (a i : ℕ) → SummedTo (part at k s) a i → k ≤ i → a ≡ checksumOf (part at k s)
-  block-all a i h l = ap (λ r. r .value) (summed-all (part at k s) a i h (omega (arith, part-length s at k here)))
+  pub block-all : (a i : ℕ) → SummedTo (part at k s) a i → k ≤ i → _≡_ {A = Summed} (record { value = a; count = i }) (summedOf (part at k s))
+  block-all a i h l = summed-all (part at k s) a i h (omega (arith, part-length s at k here))

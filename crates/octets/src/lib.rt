@@ -7,7 +7,7 @@ ghost use lib.IntN.{negsuc};
 ghost use lib.ListN.{length, take, replicate};
 ghost use lib.Signed.{mag};
 ghost use Rattle.octets.specs.Begins.{common, fit, begins};
-ghost use Rattle.octets.specs.Checksum.{checksumOf, summedOf};
+ghost use Rattle.octets.specs.Checksum.{summedOf};
 ghost use Rattle.octets.specs.Numbers.{number, bytesOf};
 ghost use Rattle.octets.specs.Parts.{part, over};
 ghost use Rattle.octets.specs.Signed.{half, signedOf, rawOf};
@@ -26,27 +26,30 @@ pub struct Summed {
     pub count: usize,
 }
 
-// The exclusive or of the 256 bytes from `at` on. The loop has no way out, so that it is done in vectors.
-fn sum_block(s: &[u8], at: usize) -> u8
+// Of the 256 bytes from `at` on. The loop has no way out, so that it is done in vectors.
+fn sum_block(s: &[u8], at: usize) -> Summed
     requires { ⌜ at + 256 ≤ length (now s) ⌝ }
-    ensures { λ r. ⌜ r ≡ checksumOf (part at 256 (now (s .entry))) ⌝ }
+    ensures { λ r. ⌜ r ≡ summedOf (part at 256 (now (s .entry))) ⌝ }
 {
     let mut value: u8 = 0;
-    for i in 0..256usize {
-        value = value ^ s[at + i];
+    let mut count = 0;
+    while count < 256 {
+        value = value ^ s[at + count];
+        count += 1;
     }
-    value
+    Summed { value, count }
 }
 
-// Whole blocks, and the bytes in them: what is left of the checksum is that of the bytes behind.
+// Of whole blocks: what is left of the checksum is that of the bytes behind them.
 fn sum_blocks(s: &[u8]) -> Summed
     ensures { λ r. ⌜ SummedTo (now (s .entry)) (r .value) (r .count) ⌝ }
 {
     let mut value: u8 = 0;
     let mut count = 0;
     while 256 <= s.len() - count {
-        value = value ^ sum_block(s, count);
-        count += 256;
+        let block = sum_block(s, count);
+        value = value ^ block.value;
+        count += block.count;
     }
     Summed { value, count }
 }

@@ -3,7 +3,7 @@ use Prim.Native.Nat.{_-_}
 use lib.ListN.{length}
 use native.Mathlib.Omega.{arith}
 use Rattle.octets.specs.Steps.{SummedTo}
-use Rattle.octets.proofs.ChecksumSteps.{summed-none, summed-block}
+use Rattle.octets.proofs.ChecksumSteps.{summed-none, block-count, summed-block}
 use borrow.Author.Needs.{needs}
 use Rattle.octets.proofs.sum_blocks.Statement.{statement}
 use Rattle.octets.proofs.sum_blocks.Tie as tie
@@ -24,16 +24,22 @@ sum-block-requires : tie.Need-sum-block-requires Inv-loop μ-loop
 sum-block-requires c κs = search needs
 
 add-count : tie.Need-add-count Inv-loop μ-loop
-add-count c = search needs
+add-count c =
+    let loop = c .before .before .before .before .loop in
+    let start = c .before .before .before .before .before .before in
+    record { fits = omega (arith, summed-block (start .args .s .now) (loop .value) (loop .count) (loop .inv) 256 (omega arith) _ (c .before .before .sum-block .ensures) .0) }
 
 loop-less : tie.Need-loop-less Inv-loop μ-loop
-loop-less c = search needs
+loop-less c =
+    let loop = c .before .before .before .before .loop in
+    let start = c .before .before .before .before .before .before in
+    omega (arith, block-count (start .args .s .now) (loop .count) 256 (omega arith) _ (c .before .before .sum-block .ensures))
 
 loop-again : tie.Need-loop-again Inv-loop μ-loop
 loop-again c =
-    let loop = c .before .before .loop in
-    let start = c .before .before .before .before in
-    summed-block (start .args .s .now) (loop .value) (loop .count) (loop .inv) 256 (omega arith) _ (c .sum-block .ensures)
+    let loop = c .before .before .before .before .loop in
+    let start = c .before .before .before .before .before .before in
+    summed-block (start .args .s .now) (loop .value) (loop .count) (loop .inv) 256 (omega arith) _ (c .before .before .sum-block .ensures)
 
 returns : tie.Need-returns Inv-loop μ-loop
 returns c = c .before .loop .inv
