@@ -1,7 +1,7 @@
 -- How the checksum goes on, by a byte and by a block. Assumes nothing.
 use Prim.Native.Nat.{ℕ, _+_, _≤_, _<_}
 use mathlib.Core.Path.{_≡_, refl, sym, ap, _∙_}
-use mathlib.Core.List.{List, [], _∷_, _++_}
+use mathlib.Core.List.{List, _++_}
 use native.Mathlib.Numerals.{add-one}
 use native.Mathlib.Omega.{arith}
 use lib.ListN.{length, getD, drop, drop-of-length-le, take-append-drop}
@@ -11,14 +11,10 @@ use Rattle.octets.specs.declared.Summed.{Summed}
 use Rattle.octets.specs.Checksum.{checksumFrom, checksumOf, summedOf}
 use Rattle.octets.specs.Parts.{part}
 use Rattle.octets.specs.Steps.{SummedTo}
-use Rattle.octets.proofs.ExclusiveOr.{checksum-from}
+use Rattle.octets.proofs.ExclusiveOr.{xor-assoc, checksum-from, checksum-append}
 use Rattle.octets.proofs.Parts.{part-length}
 
-checksum-on : (a : ℕ) (xs ys : List ℕ) → checksumFrom a (xs ++ ys) ≡ checksumFrom (checksumFrom a xs) ys
-unfolding checksumFrom
-checksum-on a [] ys = refl
-checksum-on a (x ∷ xs) ys = checksum-on (bitXor a x) xs ys
-
+-- a block counts its own bytes
 pub block-count : (s : List ℕ) (at k : ℕ) → at + k ≤ length s → (b : Summed) → b ≡ summedOf (part at k s) → b .count ≡ k
 block-count s at k l b e = ap (λ r. r .count) e ∙ part-length s at k l
 
@@ -35,8 +31,9 @@ module _ (s : List ℕ) where
     summed-block k l b e =
         rw (block-count s i k l b e) (
           l,
-          h .1 ∙ ap (checksumFrom a) (sym (take-append-drop k (drop i s))) ∙ checksum-on a (part i k s) (drop k (drop i s))
-              ∙ ap (λ v. checksumFrom v (drop k (drop i s))) (checksum-from a (part i k s) ∙ ap (bitXor a) (sym (ap (λ r. r .value) e))) ∙ ap (checksumFrom (bitXor a (b .value))) (drop-drop k i s),
+          h .1 ∙ ap (checksumFrom a) (sym (take-append-drop k (drop i s))) ∙ checksum-from a (part i k s ++ drop k (drop i s)) ∙ ap (bitXor a) (checksum-append (part i k s) (drop k (drop i s)))
+              ∙ ap (λ v. bitXor a (bitXor v (checksumOf (drop k (drop i s))))) (sym (ap (λ r. r .value) e)) ∙ sym (xor-assoc a (b .value) (checksumOf (drop k (drop i s))))
+              ∙ sym (checksum-from (bitXor a (b .value)) (drop k (drop i s))) ∙ ap (checksumFrom (bitXor a (b .value))) (drop-drop k i s),
         )
 
     pub summed-all : length s ≤ i → _≡_ {A = Summed} (record { value = a; count = i }) (summedOf s)

@@ -1,43 +1,37 @@
 -- The bytes run through the checksum to divide a stream, a position at a time. Assumes nothing.
 use Prim.Native.Nat.{ℕ, zero, suc, _+_, _-_, _<_}
 use mathlib.Core.Path.{_≡_, refl, sym, ap, _∙_}
+use mathlib.Core.Bool.{true}
 use mathlib.Core.List.{List, [], _∷_}
-use native.Mathlib.Nat.{add-zero, zero-add, suc-add}
+use native.Mathlib.Nat.{add-zero, zero-add}
 use native.Mathlib.Omega.{arith}
 use lib.ListN.{length, take, drop}
 use lib.Seq.{length-take-le}
 use Rattle.front.specs.Look.{tested}
-use Rattle.division.specs.Division.{Division, last, part, stands, divide}
+use Rattle.division.specs.declared.Walked.{Walked}
+use Rattle.division.specs.declared.Walked.the-variants.{Message, Unsettled}
+use Rattle.division.specs.Division.{stands, divide}
+use Rattle.division.specs.Walk.{walkOf}
 use Rattle.division.specs.Work.{testedIn, workIn, workOf}
 use Rattle.division.proofs.DivideSteps.{divide-nil, divide-gap, divide-message}
+use Rattle.division.proofs.PlainSteps.{Ends, walk-ends}
 use Rattle.promises.proofs.Stands.{stands-le}
 
--- ---- a gap byte more in front
-abbrev pub later : Division → Division
-later (last g) = last (suc g)
-later (part g m d) = part (suc g) m d
-
-pub divide-later : (xs : List ℕ) (g : ℕ) → divide xs (suc g) ≡ later (divide xs g)
-divide-later [] g = divide-nil (suc g) ∙ ap later (sym (divide-nil g))
-divide-later (x ∷ xs) g = go (stands (x ∷ xs)) refl (divide-later xs (suc g))
-  where
-    go : (n : ℕ) → stands (x ∷ xs) ≡ n → divide xs (suc (suc g)) ≡ later (divide xs (suc g)) → divide (x ∷ xs) (suc g) ≡ later (divide (x ∷ xs) g)
-    go zero e h = divide-gap x xs (suc g) e ∙ h ∙ ap later (sym (divide-gap x xs g e))
-    go (suc n) e h = divide-message x xs (suc g) (suc n) e (omega arith) ∙ ap later (sym (divide-message x xs g (suc n) e (omega arith)))
-
-work-later : (x : ℕ) (xs : List ℕ) (d : Division) → workIn (later d) (x ∷ xs) ≡ tested (x ∷ xs) + workIn d xs
-unfolding workIn testedIn
-work-later x xs (last g) = refl
-work-later x xs (part g m d) = let z : suc g + length m ≡ suc (g + length m) = suc-add g (length m) in rw z (omega arith)
-
--- ---- the work of a stream
 pub work-nil : workOf [] ≡ 0
 unfolding workOf workIn testedIn
 work-nil = ap (λ d. workIn d []) (divide-nil 0)
 
 pub work-gap : (x : ℕ) (xs : List ℕ) → stands (x ∷ xs) ≡ 0 → workOf (x ∷ xs) ≡ tested (x ∷ xs) + workOf xs
-unfolding workOf
-work-gap x xs e = ap (λ d. workIn d (x ∷ xs)) (divide-gap x xs 0 e ∙ divide-later xs 0) ∙ work-later x xs (divide xs 0)
+unfolding workOf workIn testedIn
+work-gap x xs e = ap (λ d. workIn d (x ∷ xs)) (divide-gap x xs 0 e) ∙ go (walkOf true xs 0 0) (walk-ends xs 0 0)
+  where
+    go : (w : Walked) → Ends xs 0 w → workIn (divide xs 1) (x ∷ xs) ≡ tested (x ∷ xs) + workIn (divide xs 0) xs
+    go (Message k n t) f =
+        let m = take n (drop (f .ahead) xs) in
+        let z : 1 + f .ahead ≡ suc (0 + f .ahead) = omega arith in
+        let y : suc (0 + f .ahead) + length m ≡ suc (0 + f .ahead + length m) = omega arith in
+        rw (f .is 1, f .is 0, z, y) (omega arith)
+    go (Unsettled k) f = let z : 1 + length xs ≡ suc (0 + length xs) = omega arith in rw (f .1 1, f .1 0, z)
 
 pub work-message : (x : ℕ) (xs : List ℕ) (n : ℕ) → stands (x ∷ xs) ≡ n → 0 < n → workOf (x ∷ xs) ≡ tested (x ∷ xs) + workOf (drop n (x ∷ xs))
 unfolding workOf workIn testedIn

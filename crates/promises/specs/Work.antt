@@ -14,10 +14,10 @@ use Rattle.promises.specs.Reason.{syncOf}
 abbrev pub testedAt : List ℕ → ℕ → ℕ
 testedAt s p = cond (eqb (coverOf s p) p) (tested (drop p s)) 0
 
--- the sum over n positions from the first on
-unfoldable pub sumOver : ℕ → (ℕ → ℕ) → ℕ
-sumOver zero f = 0
-sumOver (suc n) f = f 0 + sumOver n (λ i. f (suc i))
+-- the sum over the n positions from `at` on
+unfoldable pub sumOver : ℕ → ℕ → (ℕ → ℕ) → ℕ
+sumOver zero at f = 0
+sumOver (suc n) at f = f at + sumOver n (suc at) f
 
 -- MAC2 or MACM stands at position i
 abbrev pub SyncAt : List ℕ → ℕ → Type 0

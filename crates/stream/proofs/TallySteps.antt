@@ -24,12 +24,12 @@ use Rattle.stream.proofs.TurnSteps.{Filling, filling-held, gives, stops
 
 -- ---- what a walk has run through the checksum, where 64 bits hold its number
 module _ (e : Bool) (xs : List ℕ) (r : Passage) (z : r ≡ wholeWalk e xs) (fits : 6131 * length xs < 2 ^ 64) where
-  pub walk-tested : (w : Walked) → r .walked ≡ w → r .summed ≡ testedIn (settled w) xs
+  walk-tested : (w : Walked) → r .walked ≡ w → r .summed ≡ testedIn (settled w) xs
   walk-tested w q =
       let y : r .summed ≡ testedIn (settled (r .walked)) xs % 2 ^ 64 = ap (λ i. i .summed) z ∙ ap (λ i. testedIn (settled i) xs % 2 ^ 64) (sym (ap (λ i. i .walked) z)) in
       omega (arith, y, ap (λ i. testedIn (settled i) xs) q, tested-most-in (settled w) xs)
 
-  pub walk-most : r .summed ≤ 6131 * length xs
+  walk-most : r .summed ≤ 6131 * length xs
   walk-most = omega (arith, walk-tested (r .walked) refl, tested-most-in (settled (r .walked)) xs)
 
 -- ---- up to here: g gap bytes, n bytes summed and the bytes xs to come, after g₀ gap bytes with xs₀ to come
