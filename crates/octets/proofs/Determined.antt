@@ -21,6 +21,15 @@ number-of-determined κs a z z′ w w′ p q = search both
 pub put-number-determined : Determined octets.put_number.ended octets.put_number.Reads.Learnt
 put-number-determined κs a z z′ w w′ p q = search both
 
+pub signed-in-determined : Determined octets.signed_in.ended octets.signed_in.Reads.Learnt
+signed-in-determined κs a z z′ w w′ p q = search both
+
+pub raw-in-determined : Determined octets.raw_in.ended octets.raw_in.Reads.Learnt
+raw-in-determined κs a z z′ w w′ p q = search both
+
+pub holds-signed-determined : Determined octets.holds_signed.ended octets.holds_signed.Reads.Learnt
+holds-signed-determined κs a z z′ w w′ p q = search both
+
 pub signed-of-determined : Determined octets.signed_of.ended octets.signed_of.Reads.Learnt
 signed-of-determined κs a z z′ w w′ p q = search both
 

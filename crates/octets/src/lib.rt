@@ -2,7 +2,8 @@
 // Every function here takes all inputs; what each answers is a definition of specs/.
 ghost use mathlib.Core.Path.{_≡_};
 ghost use mathlib.Core.Logic.{_⊎_};
-ghost use Prim.Native.Nat.{_+_, _*_, _<_, _≤_, _%_, _^_};
+ghost use Prim.Native.Nat.{_+_, _*_, _<_, _≤_, _%_, _^_, min};
+ghost use lib.Dec.{ltb};
 ghost use lib.IntN.{negsuc};
 ghost use lib.ListN.{length, take, replicate};
 ghost use lib.Signed.{mag};
@@ -149,53 +150,89 @@ pub fn put_number(s: &mut [u8], x: u64)
 // ---- two's complement
 
 // -(k + 1).
-fn below_zero(k: u32) -> i32
-    requires { ⌜ k < 2147483648 ⌝ }
+fn below_zero(k: u64) -> i64
+    requires { ⌜ k < 9223372036854775808 ⌝ }
     ensures { λ r. ⌜ r ≡ negsuc k ⌝ }
 {
-    -1 - (k as i32)
+    -1 - (k as i64)
 }
 
 // z itself where it is not negative, and k for -(k + 1).
-fn magnitude(z: i32) -> u32
+fn magnitude(z: i64) -> u64
     ensures { λ r. ⌜ r ≡ mag z ⌝ }
 {
-    if z >= 0 { z as u32 } else { (-1 - z) as u32 }
+    if z >= 0 { z as u64 } else { (-1 - z) as u64 }
 }
 
-// The number that `raw` stands for in a field of which half the numbers are below `half`.
-fn signed_within(raw: u32, half: u32) -> i32
-    requires { ⌜ (raw < half * 2) × (half ≤ 2147483648) ⌝ }
-    ensures { λ r. ⌜ r ≡ signedOf half raw ⌝ }
+// Half the numbers of a field of `width` bits.
+fn half_of(width: usize) -> u64
+    ensures { λ r. ⌜ (r ≡ half (min width 64)) × (0 < r) × (r ≤ 9223372036854775808) ⌝ }
 {
-    if raw < half {
-        raw as i32
-    } else {
-        below_zero(half - 1 - (raw - half))
+    if 64 <= width {
+        return 9223372036854775808;
     }
+    if width == 0 {
+        return 1;
+    }
+    1 << (width - 1)
 }
 
-// What such a field holds for z.
-fn raw_within(z: i32, half: u32) -> u32
-    requires { ⌜ (mag z < half) × (half ≤ 2147483648) ⌝ }
-    ensures { λ r. ⌜ r ≡ rawOf half z ⌝ }
+// The number that the bits of a field of `width` bits stand for; a width above 64 counts as 64.
+pub fn signed_in(raw: u64, width: usize) -> i64
+    ensures { λ r. ⌜ r ≡ signedOf (half (min width 64)) raw ⌝ }
 {
+    let half = half_of(width);
+    if raw < half {
+        return raw as i64;
+    }
+    let above = raw - half;
+    if above < half {
+        return below_zero(half - 1 - above);
+    }
+    below_zero(0)
+}
+
+// The bits of a number in a field of `width` bits; a width above 64 counts as 64.
+pub fn raw_in(z: i64, width: usize) -> u64
+    ensures { λ r. ⌜ r ≡ rawOf (half (min width 64)) z ⌝ }
+{
+    let half = half_of(width);
     let m = magnitude(z);
-    if z >= 0 { m } else { half - 1 - m + half }
+    if z >= 0 {
+        return m;
+    }
+    if m < half {
+        return half - 1 - m + half;
+    }
+    let above = m - half;
+    if above < half {
+        return half - 1 - above;
+    }
+    0
+}
+
+// Whether a field of `width` bits holds the number.
+pub fn holds_signed(z: i64, width: usize) -> bool
+    ensures { λ r. ⌜ r ≡ ltb (mag z) (half width) ⌝ }
+{
+    if 64 <= width {
+        return true;
+    }
+    magnitude(z) < half_of(width)
 }
 
 // The number that the bits of a field of 32 bits stand for: every u32 is such a field.
 pub fn signed_of(raw: u32) -> i32
     ensures { λ r. ⌜ r ≡ signedOf (half 32) raw ⌝ }
 {
-    signed_within(raw, 2147483648)
+    signed_in(raw as u64, 32) as i32
 }
 
 // The bits of a number in a field of 32 bits: every i32 has them.
 pub fn raw_of(z: i32) -> u32
     ensures { λ r. ⌜ r ≡ rawOf (half 32) z ⌝ }
 {
-    raw_within(z, 2147483648)
+    raw_in(z as i64, 32) as u32
 }
 
 // ---- copies
