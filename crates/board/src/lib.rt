@@ -13,7 +13,7 @@ ghost use Rattle.macm.specs.Answers.{checkNumber};
 ghost use Rattle.compose.specs.Start.{startOf, startBytes};
 ghost use Rattle.compose.specs.Set.{setOf, setBytes};
 ghost use Rattle.compose.specs.Convert.{convertOf, convertBytes};
-ghost use Rattle.compose.specs.Answers.{writtenNumber};
+ghost use Rattle.refusal.specs.Written.{writtenNumber};
 ghost use Rattle.division.specs.Plain.{nextOf};
 ghost use Rattle.reason.specs.Reason.{reasonOf};
 ghost use Rattle.stream.specs.Reader.{freshState, feedCall, finishCall};

@@ -13,7 +13,7 @@ use Rattle.octets.specs.Numbers.{Bytes}
 use Rattle.octets.specs.declared.Fit.{Fit}
 use Rattle.octets.specs.declared.Fit.the-variants.{Whole, Part, Bad}
 use Rattle.octets.proofs.Begins.{Fits, fit-common}
-use Rattle.refusal.proofs.Positive.{positive}
+use Rattle.refusal.proofs.Numbered.{positive}
 use Rattle.macm.specs.declared.Form.{Form}
 use Rattle.macm.specs.declared.Form.the-variants.{New, Old}
 use Rattle.macm.specs.declared.Verdict.{Verdict}

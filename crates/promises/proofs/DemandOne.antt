@@ -13,8 +13,8 @@ use Rattle.macm.specs.declared.Observation.{Observation}
 use Rattle.macm.specs.Check.{verdict}
 use Rattle.macm.specs.Answers.{checkNumber}
 use Rattle.macm.specs.Read.{readOf}
-use Rattle.compose.specs.declared.Written.{Written}
-use Rattle.compose.specs.Answers.{writtenNumber, writtenLength}
+use Rattle.refusal.specs.declared.Written.{Written}
+use Rattle.refusal.specs.Written.{writtenNumber, writtenLength}
 use Rattle.compose.specs.Start.{startOf, startBytes}
 use Rattle.compose.specs.Set.{setOf, setBytes}
 use Rattle.compose.specs.Convert.{convertOf, convertBytes}

@@ -11,7 +11,7 @@ use borrow.Author.Tests.{ltb-true, ltb-false, leb-true, leb-false, eqb-true, eqb
 use Rattle.octets.specs.Begins.{fit, begins}
 use Rattle.octets.specs.Parts.{part}
 use Rattle.refusal.specs.declared.Refusal.the-variants.{NoObservation, NoRoom, OtherForm, PastEnd}
-use Rattle.refusal.proofs.Positive.{positive}
+use Rattle.refusal.proofs.Numbered.{positive}
 use Rattle.macm.specs.declared.Form.{Form}
 use Rattle.macm.specs.declared.Form.the-variants.{New, Old}
 use Rattle.macm.specs.declared.Header.{Header}
@@ -25,8 +25,8 @@ use Rattle.macm.specs.Observation.{observationOf}
 use Rattle.macm.specs.Read.{headerOf, readAs, readBy, readOf}
 use Rattle.macm.proofs.CheckSteps.{is-new, is-old, is-neither, too-short, checked-by, wrong-length, accepts, wrong-checksum}
 use Rattle.macm.proofs.Leads.{lead-of}
-use Rattle.compose.specs.declared.Written.the-variants.{Refused as NotWritten, Message}
-use Rattle.compose.specs.Answers.{writtenNumber}
+use Rattle.refusal.specs.declared.Written.the-variants.{Refused as NotWritten, Length}
+use Rattle.refusal.specs.Written.{writtenNumber}
 use Rattle.compose.specs.Start.{startOf}
 use Rattle.compose.specs.Set.{setBy, setOf}
 use Rattle.compose.specs.Convert.{allowed, convertBy, convertOf}
@@ -143,14 +143,14 @@ set-table m j = go (verdict m) refl
     go (Refused r) e = inl (ap checkNumber (sym e), positive r)
     go (Accepted f k) e = inr (f, k, e, test (ltb j k) refl)
       where
-        test : (a : Bool) → ltb j k ≡ a → let i = writtenNumber (cond a (Message (length m)) (NotWritten NoObservation)) in ((i ≡ 5) × (k ≤ j)) ⊎ ((i ≡ 0) × (j < k))
+        test : (a : Bool) → ltb j k ≡ a → let i = writtenNumber (cond a (Length (length m)) (NotWritten NoObservation)) in ((i ≡ 5) × (k ≤ j)) ⊎ ((i ≡ 0) × (j < k))
         test true p = inr (refl, ltb-true j k p)
         test false p = inl (refl, ltb-false j k p)
 
-room-table : (needed there : ℕ) → Room needed there (writtenNumber (cond (leb needed there) (Message needed) (NotWritten NoRoom)))
+room-table : (needed there : ℕ) → Room needed there (writtenNumber (cond (leb needed there) (Length needed) (NotWritten NoRoom)))
 room-table needed there = go (leb needed there) refl
   where
-    go : (a : Bool) → leb needed there ≡ a → Room needed there (writtenNumber (cond a (Message needed) (NotWritten NoRoom)))
+    go : (a : Bool) → leb needed there ≡ a → Room needed there (writtenNumber (cond a (Length needed) (NotWritten NoRoom)))
     go true p = inr (refl, leb-true needed there p)
     go false p = inl (refl, leb-false needed there p)
 
@@ -167,7 +167,7 @@ convert-table g m out = go (verdict m) refl
     go (Accepted f k) e = inr (f, k, e, test (allowed f g) refl)
       where
         test : (a : Bool) → allowed f g ≡ a
-            → let i = writtenNumber (cond a (cond (leb (size g k) (length out)) (Message (size g k)) (NotWritten NoRoom)) (NotWritten OtherForm)) in
+            → let i = writtenNumber (cond a (cond (leb (size g k) (length out)) (Length (size g k)) (NotWritten NoRoom)) (NotWritten OtherForm)) in
             ((i ≡ 7) × (allowed f g ≡ false)) ⊎ ((allowed f g ≡ true) × Room (size g k) (length out) i)
         test true p = inr (p, room-table (size g k) (length out))
         test false p = inl (refl, p)

@@ -9,9 +9,9 @@ use lib.Dec.{ltb, leb, eqb}
 use borrow.Author.Tests.{ltb-true, ltb-false}
 use Rattle.octets.specs.Begins.{common}
 use Rattle.octets.proofs.Begins.{common-within}
-use Rattle.refusal.specs.declared.Refusal.{Refusal}
-use Rattle.refusal.specs.declared.Refusal.the-variants.{TooShort, NoSync, WrongLength, WrongChecksum, NoObservation, NoRoom, OtherForm, SmallBuffer, BadState, Ended, TooMuch, PastEnd}
+use Rattle.refusal.specs.declared.Refusal.the-variants.{PastEnd}
 use Rattle.refusal.specs.Numbers.{numberOf}
+use Rattle.refusal.proofs.Numbered.{two-digits}
 use Rattle.text.specs.Word.{word}
 use Rattle.text.specs.Digits.{digits, needed, decimal}
 use Rattle.text.specs.Columns.{space, newline, numberText, countText}
@@ -54,22 +54,8 @@ Small CutUnknown = Unit
 Small (CutShort n) = n < 100000
 Small (Checksum residue) = Unit
 
-number-small : (r : Refusal) → numberOf r < 100000
-number-small TooShort = omega arith
-number-small NoSync = omega arith
-number-small WrongLength = omega arith
-number-small WrongChecksum = omega arith
-number-small NoObservation = omega arith
-number-small NoRoom = omega arith
-number-small OtherForm = omega arith
-number-small SmallBuffer = omega arith
-number-small BadState = omega arith
-number-small Ended = omega arith
-number-small TooMuch = omega arith
-number-small PastEnd = omega arith
-
 said-within : (r : Reason) → Small r → length (saidText r) ≤ 14
-said-within (Refused r) h = count-within (word "refused ") (numberOf r) newline (number-small r)
+said-within (Refused r) h = count-within (word "refused ") (numberOf r) newline (omega (arith, two-digits r))
 said-within (Inside q) h = omega (arith, count-within (word "inside ") q newline h)
 said-within (Given n) h = omega (arith, count-within (word "given ") n newline h)
 said-within (Sync k) h = omega (arith, count-within (word "sync ") k newline h)

@@ -14,9 +14,9 @@ use Rattle.macm.specs.declared.Verdict.{Verdict}
 use Rattle.macm.specs.declared.Verdict.the-variants.{Refused, Accepted}
 use Rattle.macm.specs.Form.{size}
 use Rattle.macm.specs.Check.{verdict}
-use Rattle.compose.specs.declared.Written.{Written}
-use Rattle.compose.specs.declared.Written.the-variants.{Refused as NotWritten, Message}
-use Rattle.compose.specs.Answers.{writtenLength}
+use Rattle.refusal.specs.declared.Written.{Written}
+use Rattle.refusal.specs.declared.Written.the-variants.{Refused as NotWritten, Length}
+use Rattle.refusal.specs.Written.{writtenLength}
 use Rattle.compose.specs.Start.{started, startOf, startBytes}
 use Rattle.compose.specs.Set.{withObservation, setBy, setOf, setBytesBy, setBytes}
 use Rattle.compose.specs.Convert.{allowed, converted, convertBy, convertOf, convertBytesBy, convertBytes}
@@ -31,7 +31,7 @@ pub start-unchanged : (h : Header) (n : ℕ) (out : List ℕ) → Refuses (start
 unfolding startOf startBytes
 start-unchanged h n out = go (leb (size (h .form) n) (length out))
   where
-    go : (b : Bool) → Refuses (cond b (Message (size (h .form) n)) (NotWritten NoRoom)) → cond b (over (started h n) out) out ≡ out
+    go : (b : Bool) → Refuses (cond b (Length (size (h .form) n)) (NotWritten NoRoom)) → cond b (over (started h n) out) out ≡ out
     go true r = absurd (r refl)
     go false r = refl
 
@@ -43,7 +43,7 @@ set-unchanged m j o = go (verdict m)
     go (Refused r) h = refl
     go (Accepted f n) h = test (ltb j n) h
       where
-        test : (b : Bool) → Refuses (cond b (Message (length m)) (NotWritten NoObservation)) → cond b (withObservation f j o m) m ≡ m
+        test : (b : Bool) → Refuses (cond b (Length (length m)) (NotWritten NoObservation)) → cond b (withObservation f j o m) m ≡ m
         test true h = absurd (h refl)
         test false h = refl
 
@@ -56,14 +56,14 @@ convert-unchanged g m out = go (verdict m)
     go (Refused r) h = refl
     go (Accepted f n) h = test (allowed f g) (leb (size g n) (length out)) h
       where
-        test : (a b : Bool) → Refuses (cond a (cond b (Message (size g n)) (NotWritten NoRoom)) (NotWritten OtherForm)) → cond a (cond b (over (converted f g m) out) out) out ≡ out
+        test : (a b : Bool) → Refuses (cond a (cond b (Length (size g n)) (NotWritten NoRoom)) (NotWritten OtherForm)) → cond a (cond b (over (converted f g m) out) out) out ≡ out
         test true true h = absurd (h refl)
         test true false h = refl
         test false b h = refl
 
 pub no-length : (w : Written) → Refuses w → writtenLength w ≡ 0
 no-length (NotWritten r) h = refl
-no-length (Message n) h = absurd (h refl)
+no-length (Length n) h = absurd (h refl)
 
 -- ---- the stream reader
 module _ (s : State) (w o : List ℕ) where

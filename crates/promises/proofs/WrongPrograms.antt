@@ -13,7 +13,7 @@ use Rattle.octets.specs.Checksum.{checksumFrom}
 use Rattle.octets.specs.Numbers.{numberFrom, bytesOf}
 use Rattle.units.specs.Units.{lockOf}
 use Rattle.refusal.specs.declared.Refusal.{Refusal}
-use Rattle.refusal.proofs.Positive.{positive}
+use Rattle.refusal.proofs.Numbered.{positive}
 use Rattle.macm.specs.declared.Form.the-variants.{New, Old}
 use Rattle.macm.specs.declared.Observation.{Observation}
 use Rattle.macm.specs.declared.Reading.{Reading}

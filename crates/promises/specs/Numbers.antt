@@ -16,8 +16,8 @@ use Rattle.macm.specs.declared.Verdict.the-variants.{Accepted}
 use Rattle.macm.specs.Form.{newSync, oldSync, lead, countAt, size}
 use Rattle.macm.specs.Check.{verdict}
 use Rattle.macm.specs.Answers.{checkNumber}
-use Rattle.compose.specs.declared.Written.{Written}
-use Rattle.compose.specs.Answers.{writtenNumber}
+use Rattle.refusal.specs.declared.Written.{Written}
+use Rattle.refusal.specs.Written.{writtenNumber}
 use Rattle.compose.specs.Convert.{allowed}
 use Rattle.division.specs.declared.Next.{Next}
 use Rattle.division.specs.declared.Next.the-variants.{Refused as NotFound, Message as Found, End as NoneLeft}

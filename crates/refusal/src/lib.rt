@@ -1,4 +1,5 @@
-// What is refused, by the numbers of document 01. Every entry of the project answers with one of these or with what it was asked for.
+// What is refused, by the numbers of document 01, and what a call that writes answers. Every entry of the project answers with a refusal or with
+// what it was asked for.
 ghost use mathlib.Core.Path.{_≡_};
 ghost use Rattle.refusal.specs.Numbers.{numberOf};
 
@@ -29,7 +30,13 @@ pub enum Refusal {
     PastEnd,
 }
 
-// The refusal's number in document 01.
+// What writing answers: a refusal, or how many bytes were written.
+pub enum Written {
+    Refused(Refusal),
+    Length(usize),
+}
+
+// The refusal's number.
 pub fn number(refusal: Refusal) -> u64
     ensures { λ r. ⌜ r ≡ numberOf refusal ⌝ }
 {

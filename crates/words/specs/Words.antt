@@ -14,8 +14,8 @@ use Rattle.macm.specs.declared.Header.{Header}
 use Rattle.macm.specs.declared.Observation.{Observation}
 use Rattle.macm.specs.declared.Reading.{Reading}
 use Rattle.macm.specs.declared.Reading.the-variants.{Refused as NotRead, HeaderOnly, Observed}
-use Rattle.compose.specs.declared.Written.{Written}
-use Rattle.compose.specs.Answers.{writtenNumber, writtenLength}
+use Rattle.refusal.specs.declared.Written.{Written}
+use Rattle.refusal.specs.Written.{writtenNumber, writtenLength}
 use Rattle.division.specs.declared.Next.{Next}
 use Rattle.division.specs.declared.Next.the-variants.{Refused as NotFound, Message as Found, End as NoneLeft}
 use Rattle.reason.specs.declared.Reason.{Reason}

@@ -1,12 +1,12 @@
 // The words of 64 bits that cross the C boundary: the structs of include/cablesound.h, what words that come in stand for, and what each answer of
 // the library is in words.
-use compose::Written;
 use division::Next;
 use macm::Form;
 use macm::Header;
 use macm::Observation;
 use macm::Reading;
 use reason::Reason;
+use refusal::Written;
 use stream::Answer;
 use track::Phase;
 ghost use mathlib.Core.Path.{_≡_};
@@ -215,7 +215,7 @@ pub fn written_words(written: Written) -> WrittenWords
             refusal: refusal::number(refusal),
             length: 0,
         },
-        Written::Message(length) => WrittenWords {
+        Written::Length(length) => WrittenWords {
             refusal: 0,
             length: length as u64,
         },
