@@ -2,7 +2,7 @@
 use Prim.Native.Nat.{_<_}
 use native.Mathlib.Omega.{arith}
 use Rattle.refusal.specs.declared.Refusal.{Refusal}
-use Rattle.refusal.specs.declared.Refusal.the-variants.{TooShort, NoSync, WrongLength, WrongChecksum, NoObservation, NoRoom, OtherForm, SmallBuffer, BadState, Ended, TooMuch, PastEnd}
+use Rattle.refusal.specs.declared.Refusal.the-variants.{TooShort, NoSync, WrongLength, WrongChecksum, NoObservation, NoRoom, OtherForm, SmallBuffer, BadState, Ended, TooMuch, PastEnd, OtherLength, OtherSignal, TooWide}
 use Rattle.refusal.specs.Numbers.{numberOf}
 
 numbered : (r : Refusal) → (0 < numberOf r) × (numberOf r < 100)
@@ -18,6 +18,9 @@ numbered BadState = (omega arith, omega arith)
 numbered Ended = (omega arith, omega arith)
 numbered TooMuch = (omega arith, omega arith)
 numbered PastEnd = (omega arith, omega arith)
+numbered OtherLength = (omega arith, omega arith)
+numbered OtherSignal = (omega arith, omega arith)
+numbered TooWide = (omega arith, omega arith)
 
 pub positive : (r : Refusal) → 0 < numberOf r
 positive r = numbered r .0

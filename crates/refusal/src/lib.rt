@@ -1,4 +1,4 @@
-// What is refused, by the numbers of document 01, and what a call that writes answers. Every entry of the project answers with a refusal or with
+// What is refused, by the numbers of documents 01 and 02, and what a call that writes answers. Every entry of the project answers with a refusal or with
 // what it was asked for.
 ghost use mathlib.Core.Path.{_≡_};
 ghost use Rattle.refusal.specs.Numbers.{numberOf};
@@ -14,7 +14,7 @@ pub enum Refusal {
     WrongChecksum,
     // The observation index is N or more.
     NoObservation,
-    // The output has fewer bytes than the message needs.
+    // The output has fewer bytes than the message or the record needs.
     NoRoom,
     // Converting: not of the form converted from, or, to the old form, TYPE is not 0.
     OtherForm,
@@ -28,6 +28,12 @@ pub enum Refusal {
     TooMuch,
     // The start is past the end of the slice.
     PastEnd,
+    // A range record of another length than 24 bytes.
+    OtherLength,
+    // A corrected ADR of another signal than GPS L1 C/A.
+    OtherSignal,
+    // A number that its field cannot hold.
+    TooWide,
 }
 
 // What writing answers: a refusal, or how many bytes were written.
@@ -53,5 +59,8 @@ pub fn number(refusal: Refusal) -> u64
         Refusal::Ended => 10,
         Refusal::TooMuch => 11,
         Refusal::PastEnd => 12,
+        Refusal::OtherLength => 13,
+        Refusal::OtherSignal => 22,
+        Refusal::TooWide => 23,
     }
 }
