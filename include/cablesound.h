@@ -1,4 +1,5 @@
-/* Cablesound: reads and writes MACM, the GNSS range message of RCC 264-04 (old form) and 264-21 (new form).
+/* Cablesound: reads and writes MACM, the GNSS range message of RCC 264-04 (old form) and 264-21 (new form), and the range record of RANGECMP, NovAtel's
+ * compressed range log.
  *
  * Every function takes all inputs and ends. A refusal is a number of the table below, 0 for none; a refused call changes no byte that was lent, nor
  * the state, and every other number that it answers is 0. Nobody has to check anything first.
@@ -22,6 +23,9 @@ extern "C" {
 #define CS_OBSERVATIONS 255
 #define CS_STREAM_BYTES (UINT64_C(1) << 48)
 
+/* The bytes of a RANGECMP record. */
+#define CS_RANGECMP_BYTES 24
+
 /* Refusals. Where several hold, a call answers the one that its own comment names first. */
 enum {
     CS_TOO_SHORT = 1,      /* fewer than 15 bytes */
@@ -29,13 +33,16 @@ enum {
     CS_WRONG_LENGTH = 3,   /* the length is not the one that form and count byte require */
     CS_BAD_CHECKSUM = 4,   /* the checksum is wrong */
     CS_NO_OBSERVATION = 5, /* no observation has this index */
-    CS_NO_ROOM = 6,        /* the output is too short for the message */
+    CS_NO_ROOM = 6,        /* the output is too short for the message or the record */
     CS_WRONG_FORM = 7,     /* a conversion from the wrong form, or to the old form with TYPE other than 0 */
     CS_SMALL_BUFFER = 8,   /* window or output shorter than CS_LONGEST */
     CS_BAD_STATE = 9,      /* a state with held above CS_LONGEST, total above CS_STREAM_BYTES, gap + held above total, or summed above 2^60 */
     CS_ENDED = 10,         /* feeding after the first accepted finish */
     CS_TOO_LONG = 11,      /* the stream would be longer than CS_STREAM_BYTES */
-    CS_PAST_THE_END = 12   /* cs_next: the start is past the recording's end; cs_why: the position is at the end or past it */
+    CS_PAST_THE_END = 12,  /* cs_next: the start is past the recording's end; cs_why: the position is at the end or past it */
+    CS_OTHER_LENGTH = 13,  /* a RANGECMP record of another length than CS_RANGECMP_BYTES */
+    CS_OTHER_SIGNAL = 22,  /* a corrected ADR of another signal than GPS L1 C/A */
+    CS_TOO_WIDE = 23       /* a number that its field cannot hold */
 };
 
 /* The form of a message. */
@@ -93,7 +100,7 @@ typedef struct {
     cs_observation observation;
 } cs_reading;
 
-/* What a writing call answers: the length of the message at the front of the output. */
+/* What a writing call answers: the length of the message or the record at the front of the output. */
 typedef struct { uint64_t refusal, length; } cs_written;
 
 /* A phase: its kind, and the cycles where it has any, else 0. */
@@ -101,6 +108,20 @@ typedef struct { uint64_t kind; double cycles; } cs_cycles;
 
 /* A plot row: range in metres, rate in hertz. */
 typedef struct { double range, rate; } cs_row;
+
+/* A RANGECMP record, in the log's own steps: status is the tracking status; doppler in 1/256 Hz; range in 1/128 m; adr in 1/256 cycle, with its rolls
+ * still in it; the deviations' codes, 0 to 15 (cs_rangecmp_range_mm, cs_rangecmp_adr_512ths); lock in 1/32 s; cn0 in dB-Hz, 20 to 51, where 20 may be
+ * less and 51 more; reserved is the 22 bits at the end. refusal is what cs_rangecmp_read answers, and writing does not look at it. */
+typedef struct {
+    uint64_t refusal, status;
+    int64_t doppler;
+    uint64_t range;
+    int64_t adr;
+    uint64_t range_deviation, adr_deviation, prn, lock, cn0, reserved;
+} cs_rangecmp;
+
+/* A corrected ADR: how often the ADR has rolled over 2^23 cycles, and the ADR less its rolls, in 1/256 cycle. */
+typedef struct { uint64_t refusal; int64_t rolls, adr; } cs_adr;
 
 /* Whether these bytes are exactly one message: 0, or 1 to 4. */
 uint64_t cs_check(const uint8_t *message, size_t length);
@@ -160,6 +181,22 @@ cs_cycles cs_phase(uint64_t form, cs_observation observation);
 
 /* The plot row of a pseudorange and a rate as PR and RATE have them: within 4 nm of the range that cs_range_um answers, and within 2/10^11 Hz. */
 cs_row cs_plot_row(uint32_t pseudorange, int32_t rate);
+
+/* The RANGECMP record in exactly these bytes. Refuses with 13. */
+cs_rangecmp cs_rangecmp_read(const uint8_t *record, size_t length);
+
+/* Writes a RANGECMP record at the front of the output; every byte behind it stays. Refuses with 23, then 6: a number that is wider than its field is
+ * refused here and not cut, a C/N0 below 20 or above 51 among them. A record that was read is written as the same bytes. */
+cs_written cs_rangecmp_write(uint8_t *output, size_t output_length, cs_rangecmp record);
+
+/* The corrected ADR of the RANGECMP record in exactly these bytes. The rolls are the whole number nearest to (range / wavelength + ADR) / 2^23 cycles at
+ * L1's wavelength, 0.1902936727984 m, halves away from zero: by whole numbers, without a rounding on the way. Refuses with 13, then 22 unless the status
+ * says GPS L1 C/A: its bits 16 to 18 (system) and 21 to 25 (signal) are all 0. */
+cs_adr cs_rangecmp_adr(const uint8_t *record, size_t length);
+
+/* What the codes of a record's deviations say, of each the low 4 bits: the range's in millimetres, 50 to 152000, and the ADR's in 1/512 cycle, 1 to 16. */
+uint64_t cs_rangecmp_range_mm(uint64_t code);
+uint64_t cs_rangecmp_adr_512ths(uint64_t code);
 
 #ifdef __cplusplus
 }

@@ -50,6 +50,21 @@ cs-phase-determined κs a z z′ w w′ p q = search both
 pub cs-plot-row-determined : Determined board.cs_plot_row.ended board.cs_plot_row.Reads.Learnt
 cs-plot-row-determined κs a z z′ w w′ p q = search both
 
+pub cs-rangecmp-read-determined : Determined board.cs_rangecmp_read.ended board.cs_rangecmp_read.Reads.Learnt
+cs-rangecmp-read-determined κs a z z′ w w′ p q = search both
+
+pub cs-rangecmp-write-determined : Determined board.cs_rangecmp_write.ended board.cs_rangecmp_write.Reads.Learnt
+cs-rangecmp-write-determined κs a z z′ w w′ p q = search both
+
+pub cs-rangecmp-adr-determined : Determined board.cs_rangecmp_adr.ended board.cs_rangecmp_adr.Reads.Learnt
+cs-rangecmp-adr-determined κs a z z′ w w′ p q = search both
+
+pub cs-rangecmp-range-mm-determined : Determined board.cs_rangecmp_range_mm.ended board.cs_rangecmp_range_mm.Reads.Learnt
+cs-rangecmp-range-mm-determined κs a z z′ w w′ p q = search both
+
+pub cs-rangecmp-adr-512ths-determined : Determined board.cs_rangecmp_adr_512ths.ended board.cs_rangecmp_adr_512ths.Reads.Learnt
+cs-rangecmp-adr-512ths-determined κs a z z′ w w′ p q = search both
+
 -- the entries over a lent state are walked by hand and so have no `Reads`: the `ensures` of each, one plain fact, is read here as the checker reads the others
 
 abbrev cs-feed-ensures : (κs : Lfts 4) → Args board.cs_feed.signature κs → Res board.cs_feed.signature κs → AtExit board.cs_feed.ended κs → (w : World) → Pr w

@@ -4,6 +4,7 @@ use macm::Form;
 use stream::State;
 use words::AnswerWords;
 use words::ObservationWords;
+use words::RecordWords;
 use words::WrittenWords;
 ghost use mathlib.Core.Path.{_≡_};
 ghost use lib.ListN.{length};
@@ -21,7 +22,9 @@ ghost use Rattle.track.specs.Range.{rangeOf};
 ghost use Rattle.track.specs.Row.{rowOf, Bounded};
 ghost use Rattle.track.specs.Shown.{phaseOf};
 ghost use Rattle.units.specs.Units.{lockOf, lockMillis, millisIn};
-ghost use Rattle.words.specs.Words.{formIn, headerIn, observationIn, readingWords, writtenWords, foundWords, reasonWords, phaseWords};
+ghost use Rattle.novatel.specs.Deviations.{rangeDeviation, adrDeviation};
+ghost use Rattle.novatel.specs.Entries.{readingOf, writingOf, writingBytes, correctionOf};
+ghost use Rattle.words.specs.Words.{formIn, headerIn, observationIn, recordIn, readingWords, writtenWords, foundWords, reasonWords, phaseWords, recordWords, adrWords};
 ghost use Rattle.board.specs.Lent.{Finds};
 
 // ---- one message
@@ -151,4 +154,41 @@ pub extern "C" fn cs_plot_row(pseudorange: u32, rate: i32) -> track::PlotRow
     ensures { λ r. ⌜ (r ≡ rowOf pseudorange rate) × Bounded pseudorange rate r ⌝ }
 {
     track::plot_row(pseudorange, rate)
+}
+
+// ---- NovAtel's range record
+
+#[no_mangle]
+pub extern "C" fn cs_rangecmp_read(bytes: &[u8]) -> RecordWords
+    ensures { λ r. ⌜ r ≡ recordWords (readingOf (now (bytes .entry))) ⌝ }
+{
+    words::record_words(novatel::read_record(bytes))
+}
+
+#[no_mangle]
+pub extern "C" fn cs_rangecmp_write(output: &mut [u8], fields: RecordWords) -> WrittenWords
+    ensures { λ r. ⌜ (r ≡ writtenWords (writingOf (recordIn fields) (now (output .entry)))) × (now (output .exit) ≡ writingBytes (recordIn fields) (now (output .entry))) ⌝ }
+{
+    words::written_words(novatel::write_record(output, words::record_in(fields)))
+}
+
+#[no_mangle]
+pub extern "C" fn cs_rangecmp_adr(bytes: &[u8]) -> words::AdrWords
+    ensures { λ r. ⌜ r ≡ adrWords (correctionOf (now (bytes .entry))) ⌝ }
+{
+    words::adr_words(novatel::corrected_adr(bytes))
+}
+
+#[no_mangle]
+pub extern "C" fn cs_rangecmp_range_mm(code: u64) -> u64
+    ensures { λ r. ⌜ r ≡ rangeDeviation code ⌝ }
+{
+    novatel::deviation_of_range(code)
+}
+
+#[no_mangle]
+pub extern "C" fn cs_rangecmp_adr_512ths(code: u64) -> u64
+    ensures { λ r. ⌜ r ≡ adrDeviation code ⌝ }
+{
+    novatel::deviation_of_adr(code)
 }

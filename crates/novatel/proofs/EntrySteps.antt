@@ -18,16 +18,16 @@ use Rattle.novatel.specs.declared.Reading.the-variants.{Refused as NotRe
 use Rattle.novatel.specs.declared.Correction.{Correction}
 use Rattle.novatel.specs.declared.Correction.the-variants.{Refused as NotCorrected, Corrected}
 use Rattle.novatel.specs.Record.{recordOf, recordBytes, fits}
-use Rattle.novatel.specs.Entries.{readOf, writeOf, writeBytes, saysGps, correctionIn, correctionOf}
+use Rattle.novatel.specs.Entries.{readingOf, writingOf, writingBytes, saysGps, correctionIn, correctionOf}
 use Rattle.novatel.specs.Rolls.{rollsOf, correctedOf}
 
 module _ (s : List ℕ) where
-  pub read-size : (length s ≡ 24 → ⊥) → NotRead OtherLength ≡ readOf s
-  unfolding readOf
+  pub read-size : (length s ≡ 24 → ⊥) → NotRead OtherLength ≡ readingOf s
+  unfolding readingOf
   read-size n = rw (ne-eqb (length s) 24 n)
 
-  pub read-record : length s ≡ 24 → (r : Record) → r ≡ recordOf s → Read r ≡ readOf s
-  unfolding readOf
+  pub read-record : length s ≡ 24 → (r : Record) → r ≡ recordOf s → Read r ≡ readingOf s
+  unfolding readingOf
   read-record e r q = rw (eq-eqb (length s) 24 e, q)
 
   pub correct-size : (length s ≡ 24 → ⊥) → NotCorrected OtherLength ≡ correctionOf s
@@ -64,16 +64,16 @@ module _ (s : List ℕ) where
       correct-first n r a c k j h = h ∙ ap₂ (λ u v. Corrected (rollsOf u v) (correctedOf u v)) k j ∙ rw (eq-eqb (length s) 24 e, first true (eq-eqb y 0 n))
 
 module _ (r : Record) (out : List ℕ) where
-  pub write-wide : fits r ≡ false → (NotWritten TooWide ≡ writeOf r out) × (out ≡ writeBytes r out)
-  unfolding writeOf writeBytes
+  pub write-wide : fits r ≡ false → (NotWritten TooWide ≡ writingOf r out) × (out ≡ writingBytes r out)
+  unfolding writingOf writingBytes
   write-wide f = (rw f, rw f)
 
-  pub write-room : fits r ≡ true → length out < 24 → (NotWritten NoRoom ≡ writeOf r out) × (out ≡ writeBytes r out)
-  unfolding writeOf writeBytes
+  pub write-room : fits r ≡ true → length out < 24 → (NotWritten NoRoom ≡ writingOf r out) × (out ≡ writingBytes r out)
+  unfolding writingOf writingBytes
   write-room f l = let w = lt-leb 24 (length out) l in (rw (f, w), rw (f, w))
 
-  pub write-done : (w : List ℕ) → fits r ≡ true → 24 ≤ length out → w ≡ recordBytes r → length w ≡ 24 → (Length 24 ≡ writeOf r out) × (w ++ drop (24 - 0) (drop 0 out) ≡ writeBytes r out)
-  unfolding writeOf writeBytes
+  pub write-done : (w : List ℕ) → fits r ≡ true → 24 ≤ length out → w ≡ recordBytes r → length w ≡ 24 → (Length 24 ≡ writingOf r out) × (w ++ drop (24 - 0) (drop 0 out) ≡ writingBytes r out)
+  unfolding writingOf writingBytes
   write-done w f l p k =
       let v = le-leb 24 (length out) l in
       (rw (f, v), ap (λ n. w ++ drop n out) (sym k) ∙ ap (λ b. b ++ drop (length b) out) p ∙ rw (f, v))

@@ -18,16 +18,16 @@ use Rattle.novatel.specs.Record.{recordOf, recordBytes, fits}
 use Rattle.novatel.specs.Rolls.{rollsOf, correctedOf}
 
 -- 13 for a length other than 24
-unfoldable pub readOf : List ℕ → Reading
-readOf s = cond (eqb (length s) 24) (Read (recordOf s)) (NotRead OtherLength)
+unfoldable pub readingOf : List ℕ → Reading
+readingOf s = cond (eqb (length s) 24) (Read (recordOf s)) (NotRead OtherLength)
 
 -- 23 for a number that its field cannot hold, then 6
-unfoldable pub writeOf : Record → List ℕ → Written
-writeOf r out = cond (fits r) (cond (leb 24 (length out)) (Length 24) (NotWritten NoRoom)) (NotWritten TooWide)
+unfoldable pub writingOf : Record → List ℕ → Written
+writingOf r out = cond (fits r) (cond (leb 24 (length out)) (Length 24) (NotWritten NoRoom)) (NotWritten TooWide)
 
 -- bytes behind the record stay; a refusal changes nothing
-unfoldable pub writeBytes : Record → List ℕ → List ℕ
-writeBytes r out = cond (fits r) (cond (leb 24 (length out)) (over (recordBytes r) out) out) out
+unfoldable pub writingBytes : Record → List ℕ → List ℕ
+writingBytes r out = cond (fits r) (cond (leb 24 (length out)) (over (recordBytes r) out) out) out
 
 -- the status says GPS L1 C/A: its system, bits 16 to 18, and its signal, bits 21 to 25, are both 0
 unfoldable pub saysGps : ℕ → Bool

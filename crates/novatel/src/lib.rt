@@ -10,7 +10,7 @@ ghost use lib.ListN.{length};
 ghost use lib.Signed.{mag};
 ghost use Rattle.novatel.specs.Record.{recordOf, recordBytes, fits};
 ghost use Rattle.novatel.specs.Deviations.{rangeDeviation, adrDeviation};
-ghost use Rattle.novatel.specs.Entries.{readOf, writeOf, writeBytes, correctionOf};
+ghost use Rattle.novatel.specs.Entries.{readingOf, writingOf, writingBytes, correctionOf};
 ghost use Rattle.novatel.specs.Rolls.{rollsOf, correctedOf};
 
 // The fields of a record: Doppler in 1/256 Hz, range in 1/128 m, ADR in 1/256 cycle, the deviations' codes, lock in 1/32 s, C/N0 in dB-Hz.
@@ -174,7 +174,7 @@ fn record_of(bytes: &[u8]) -> Record
 
 // The record in exactly 24 bytes (13).
 pub fn read_record(bytes: &[u8]) -> Reading
-    ensures { λ r. ⌜ r ≡ readOf (now (bytes .entry)) ⌝ }
+    ensures { λ r. ⌜ r ≡ readingOf (now (bytes .entry)) ⌝ }
 {
     if bytes.len() != 24 {
         return Reading::Refused(Refusal::OtherLength);
@@ -245,7 +245,7 @@ fn fill(bytes: &mut [u8], r: Record)
 
 // The record at the front of `out` (23, then 6).
 pub fn write_record(out: &mut [u8], fields: Record) -> Written
-    ensures { λ r. ⌜ (r ≡ writeOf fields (now (out .entry))) × (now (out .exit) ≡ writeBytes fields (now (out .entry))) ⌝ }
+    ensures { λ r. ⌜ (r ≡ writingOf fields (now (out .entry))) × (now (out .exit) ≡ writingBytes fields (now (out .entry))) ⌝ }
 {
     if fitting(fields) {
         if out.len() < 24 {

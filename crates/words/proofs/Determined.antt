@@ -29,3 +29,12 @@ answer-words-determined κs a z z′ w w′ p q = search both
 
 pub phase-words-determined : Determined words.phase_words.ended words.phase_words.Reads.Learnt
 phase-words-determined κs a z z′ w w′ p q = search both
+
+pub record-in-determined : Determined words.record_in.ended words.record_in.Reads.Learnt
+record-in-determined κs a z z′ w w′ p q = search both
+
+pub record-words-determined : Determined words.record_words.ended words.record_words.Reads.Learnt
+record-words-determined κs a z z′ w w′ p q = search both
+
+pub adr-words-determined : Determined words.adr_words.ended words.adr_words.Reads.Learnt
+adr-words-determined κs a z z′ w w′ p q = search both

@@ -24,6 +24,11 @@ use Rattle.stream.specs.declared.Answer.{Answer}
 use Rattle.stream.specs.declared.Answer.the-variants.{Refused, NeedsMore, Message, End}
 use Rattle.track.specs.declared.Phase.{Phase}
 use Rattle.track.specs.declared.Phase.the-variants.{Withheld, NotFinite, Cycles}
+use Rattle.novatel.specs.declared.Record.{Record}
+use Rattle.novatel.specs.declared.Reading as novatel
+use Rattle.novatel.specs.declared.Reading.the-variants.{Refused as NoRecord, Read}
+use Rattle.novatel.specs.declared.Correction.{Correction}
+use Rattle.novatel.specs.declared.Correction.the-variants.{Refused as NotCorrected, Corrected}
 use Rattle.words.specs.declared.HeaderWords.{HeaderWords}
 use Rattle.words.specs.declared.ObservationWords.{ObservationWords}
 use Rattle.words.specs.declared.ReadingWords.{ReadingWords}
@@ -32,6 +37,8 @@ use Rattle.words.specs.declared.FoundWords.{FoundWords}
 use Rattle.words.specs.declared.ReasonWords.{ReasonWords}
 use Rattle.words.specs.declared.AnswerWords.{AnswerWords}
 use Rattle.words.specs.declared.PhaseWords.{PhaseWords}
+use Rattle.words.specs.declared.RecordWords.{RecordWords}
+use Rattle.words.specs.declared.AdrWords.{AdrWords}
 
 -- ---- words in: of each the low bits that its field holds
 abbrev pub lowBits : ℤ → ℕ
@@ -55,6 +62,22 @@ observationIn w =
       pseudorange = w .pseudorange % 2 ^ 32;
       rate = signedOf (half 32) (lowBits (w .rate));
       lock = lockOf (w .lock % 2 ^ 32);
+    }
+
+-- all of them but the refusal, and none is cut
+abbrev pub recordIn : RecordWords → Record
+recordIn w =
+    record {
+      status = w .status;
+      doppler = w .doppler;
+      range = w .range;
+      adr = w .adr;
+      «range_deviation» = w .«range_deviation»;
+      «adr_deviation» = w .«adr_deviation»;
+      prn = w .prn;
+      lock = w .lock;
+      cn0 = w .cn0;
+      reserved = w .reserved;
     }
 
 -- ---- words out
@@ -123,3 +146,30 @@ abbrev pub phaseWords : Phase → PhaseWords
 phaseWords Withheld = record { kind = 0; cycles = ofBits binary64 0 }
 phaseWords NotFinite = record { kind = 1; cycles = ofBits binary64 0 }
 phaseWords (Cycles x) = record { kind = 2; cycles = x }
+
+abbrev pub recordOut : ℕ → Record → RecordWords
+recordOut k r =
+    record {
+      refusal = k;
+      status = r .status;
+      doppler = r .doppler;
+      range = r .range;
+      adr = r .adr;
+      «range_deviation» = r .«range_deviation»;
+      «adr_deviation» = r .«adr_deviation»;
+      prn = r .prn;
+      lock = r .lock;
+      cn0 = r .cn0;
+      reserved = r .reserved;
+    }
+
+abbrev pub noRecord : Record
+noRecord = record { status = 0; doppler = pos 0; range = 0; adr = pos 0; «range_deviation» = 0; «adr_deviation» = 0; prn = 0; lock = 0; cn0 = 0; reserved = 0 }
+
+abbrev pub recordWords : novatel.Reading → RecordWords
+recordWords (NoRecord r) = recordOut (numberOf r) noRecord
+recordWords (Read r) = recordOut 0 r
+
+abbrev pub adrWords : Correction → AdrWords
+adrWords (NotCorrected r) = record { refusal = numberOf r; rolls = pos 0; adr = pos 0 }
+adrWords (Corrected rolls adr) = record { refusal = 0; rolls = rolls; adr = adr }

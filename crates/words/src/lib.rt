@@ -5,12 +5,14 @@ use macm::Form;
 use macm::Header;
 use macm::Observation;
 use macm::Reading;
+use novatel::Correction;
+use novatel::Record;
 use reason::Reason;
 use refusal::Written;
 use stream::Answer;
 use track::Phase;
 ghost use mathlib.Core.Path.{_≡_};
-ghost use Rattle.words.specs.Words.{lowBits, formIn, headerIn, observationIn, headerWords, observationWords, unobservedWords, readingWords, writtenWords, foundWords, reasonWords, answerWords, phaseWords};
+ghost use Rattle.words.specs.Words.{lowBits, formIn, headerIn, observationIn, headerWords, observationWords, unobservedWords, readingWords, writtenWords, foundWords, reasonWords, answerWords, phaseWords, recordIn, recordOut, recordWords, adrWords};
 
 #[repr(C)]
 pub struct HeaderWords {
@@ -79,6 +81,28 @@ pub struct PhaseWords {
     pub cycles: f64,
 }
 
+#[repr(C)]
+pub struct RecordWords {
+    pub refusal: u64,
+    pub status: u64,
+    pub doppler: i64,
+    pub range: u64,
+    pub adr: i64,
+    pub range_deviation: u64,
+    pub adr_deviation: u64,
+    pub prn: u64,
+    pub lock: u64,
+    pub cn0: u64,
+    pub reserved: u64,
+}
+
+#[repr(C)]
+pub struct AdrWords {
+    pub refusal: u64,
+    pub rolls: i64,
+    pub adr: i64,
+}
+
 // ---- words in
 
 // The low 32 bits of a signed word.
@@ -126,6 +150,24 @@ pub fn observation_in(words: ObservationWords) -> Observation
         pseudorange: (words.pseudorange % 4294967296) as u32,
         rate: octets::signed_of(low_bits(words.rate)),
         lock: units::LockCount::from_count((words.lock % 4294967296) as u32),
+    }
+}
+
+// All of them as they are, but for the refusal: what a field cannot hold is refused in writing.
+pub fn record_in(words: RecordWords) -> Record
+    ensures { λ r. ⌜ r ≡ recordIn words ⌝ }
+{
+    Record {
+        status: words.status,
+        doppler: words.doppler,
+        range: words.range,
+        adr: words.adr,
+        range_deviation: words.range_deviation,
+        adr_deviation: words.adr_deviation,
+        prn: words.prn,
+        lock: words.lock,
+        cn0: words.cn0,
+        reserved: words.reserved,
     }
 }
 
@@ -305,5 +347,63 @@ pub fn phase_words(phase: Phase) -> PhaseWords
         Phase::Withheld => PhaseWords { kind: 0, cycles },
         Phase::NotFinite => PhaseWords { kind: 1, cycles },
         Phase::Cycles(cycles) => PhaseWords { kind: 2, cycles },
+    }
+}
+
+fn record_of(refusal: u64, r: Record) -> RecordWords
+    ensures { λ w. ⌜ w ≡ recordOut refusal r ⌝ }
+{
+    RecordWords {
+        refusal,
+        status: r.status,
+        doppler: r.doppler,
+        range: r.range,
+        adr: r.adr,
+        range_deviation: r.range_deviation,
+        adr_deviation: r.adr_deviation,
+        prn: r.prn,
+        lock: r.lock,
+        cn0: r.cn0,
+        reserved: r.reserved,
+    }
+}
+
+pub fn record_words(reading: novatel::Reading) -> RecordWords
+    ensures { λ r. ⌜ r ≡ recordWords reading ⌝ }
+{
+    match reading {
+        novatel::Reading::Refused(refusal) => record_of(
+            refusal::number(refusal),
+            Record {
+                status: 0,
+                doppler: 0,
+                range: 0,
+                adr: 0,
+                range_deviation: 0,
+                adr_deviation: 0,
+                prn: 0,
+                lock: 0,
+                cn0: 0,
+                reserved: 0,
+            },
+        ),
+        novatel::Reading::Read(r) => record_of(0, r),
+    }
+}
+
+pub fn adr_words(correction: Correction) -> AdrWords
+    ensures { λ r. ⌜ r ≡ adrWords correction ⌝ }
+{
+    match correction {
+        Correction::Refused(refusal) => AdrWords {
+            refusal: refusal::number(refusal),
+            rolls: 0,
+            adr: 0,
+        },
+        Correction::Corrected { rolls, adr } => AdrWords {
+            refusal: 0,
+            rolls,
+            adr,
+        },
     }
 }
