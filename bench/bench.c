@@ -4,16 +4,15 @@
  * It first makes sure that both give the same messages and gaps. Then both run by turns, in short rounds, and of each the best CPU time counts. It
  * ends with 1 where a target is missed, with 2 where nothing can be measured.
  */
-#define _DEFAULT_SOURCE
 #include "cablesound.h"
 #include "process.h"
 #include "reader.h"
+#include "records.h"
 #include "streams.h"
 
 #include <inttypes.h>
 #include <stdio.h>
 #include <stdlib.h>
-#include <time.h>
 
 /* A row takes so many rounds and so many seconds at least: a shared machine has slow seconds, and both need their turns in a fast one. */
 static const int ROUNDS = 9;
@@ -161,17 +160,11 @@ static void compare(const stream *s, const way *w) {
     }
 }
 
-static double cpu_seconds(void) {
-    struct timespec now;
-    clock_gettime(CLOCK_PROCESS_CPUTIME_ID, &now);
-    return (double)now.tv_sec + (double)now.tv_nsec / 1e9;
-}
-
 static double seconds_of(run *reader, const stream *s, const way *w, uint64_t *calls) {
     tally t = {.whole = 0};
-    double before = cpu_seconds();
+    double before = process_own_seconds();
     reader(s->bytes, s->fed, w->piece, &t);
-    double taken = cpu_seconds() - before;
+    double taken = process_own_seconds() - before;
     *calls = t.calls;
     return taken;
 }
@@ -191,8 +184,8 @@ static double print_row(const char *name, const char *how, size_t length, times 
 static double measure(const stream *s, const way *w) {
     times best = {1e9, 1e9};
     uint64_t calls = 0, none;
-    double begin = cpu_seconds();
-    for (int round = 0; round < ROUNDS || cpu_seconds() - begin < SECONDS; round++) {
+    double begin = process_own_seconds();
+    for (int round = 0; round < ROUNDS || process_own_seconds() - begin < SECONDS; round++) {
         best.library = lesser(best.library, seconds_of(w->library, s, w, &calls));
         best.c = lesser(best.c, seconds_of(run_c, s, w, &none));
     }
@@ -291,6 +284,9 @@ static void compare_all(const char *folder, const char *program) {
         }
         compare_listings(&streams[i], folder, program);
     }
+    if (!records_agree()) {
+        stop("the library and the C differ in a record");
+    }
 }
 
 /* Prints the rows of a stream; answers the nanoseconds of a feed of one byte. */
@@ -328,6 +324,9 @@ int main(int argc, char **argv) {
     printf("%-8s %10s %12s %12s %12s\n", "stream", "bytes fed", "bytes summed", "a byte fed", "at most");
     for (int i = 0; i < ALL; i++) {
         print_summed(&streams[i]);
+    }
+    if (!records_measure()) {
+        stop("the library and the C come to different numbers over the records");
     }
     for (int i = 0; i < MEASURED; i++) {
         missed |= judge(&streams[i], listings[i]);

@@ -1,4 +1,4 @@
-/* A program run as a child, for its CPU time: see process.h. */
+/* CPU time, of this process and of a child: see process.h. */
 #define _DEFAULT_SOURCE
 #include "process.h"
 
@@ -7,7 +7,14 @@
 #include <stdio.h>
 #include <sys/resource.h>
 #include <sys/wait.h>
+#include <time.h>
 #include <unistd.h>
+
+double process_own_seconds(void) {
+    struct timespec now;
+    clock_gettime(CLOCK_PROCESS_CPUTIME_ID, &now);
+    return (double)now.tv_sec + (double)now.tv_nsec / 1e9;
+}
 
 static double seconds(struct timeval time) {
     return (double)time.tv_sec + (double)time.tv_usec / 1e6;

@@ -110,6 +110,30 @@ pub struct Row {
     pub rate: f64,
 }
 
+#[repr(C)]
+#[derive(Clone, Copy, Debug, Default, PartialEq)]
+pub struct Rangecmp {
+    pub refusal: u64,
+    pub status: u64,
+    pub doppler: i64,
+    pub range: u64,
+    pub adr: i64,
+    pub range_deviation: u64,
+    pub adr_deviation: u64,
+    pub prn: u64,
+    pub lock: u64,
+    pub cn0: u64,
+    pub reserved: u64,
+}
+
+#[repr(C)]
+#[derive(Clone, Copy, Debug, Default, PartialEq)]
+pub struct Adr {
+    pub refusal: u64,
+    pub rolls: i64,
+    pub adr: i64,
+}
+
 mod raw {
     use super::*;
 
@@ -137,6 +161,11 @@ mod raw {
         pub fn cs_lock_ms(lock: u32) -> u64;
         pub fn cs_phase(form: u64, observation: Observation) -> Cycles;
         pub fn cs_plot_row(pseudorange: u32, rate: i32) -> Row;
+        pub fn cs_rangecmp_read(record: *const u8, length: usize) -> Rangecmp;
+        pub fn cs_rangecmp_write(output: *mut u8, output_length: usize, record: Rangecmp) -> Written;
+        pub fn cs_rangecmp_adr(record: *const u8, length: usize) -> Adr;
+        pub fn cs_rangecmp_range_mm(code: u64) -> u64;
+        pub fn cs_rangecmp_adr_512ths(code: u64) -> u64;
     }
 }
 
@@ -200,4 +229,24 @@ pub fn phase(form: u64, observation: Observation) -> Cycles {
 
 pub fn plot_row(pseudorange: u32, rate: i32) -> Row {
     unsafe { raw::cs_plot_row(pseudorange, rate) }
+}
+
+pub fn rangecmp_read(record: &[u8]) -> Rangecmp {
+    unsafe { raw::cs_rangecmp_read(record.as_ptr(), record.len()) }
+}
+
+pub fn rangecmp_write(output: &mut [u8], record: Rangecmp) -> Written {
+    unsafe { raw::cs_rangecmp_write(output.as_mut_ptr(), output.len(), record) }
+}
+
+pub fn rangecmp_adr(record: &[u8]) -> Adr {
+    unsafe { raw::cs_rangecmp_adr(record.as_ptr(), record.len()) }
+}
+
+pub fn rangecmp_range_mm(code: u64) -> u64 {
+    unsafe { raw::cs_rangecmp_range_mm(code) }
+}
+
+pub fn rangecmp_adr_512ths(code: u64) -> u64 {
+    unsafe { raw::cs_rangecmp_adr_512ths(code) }
 }

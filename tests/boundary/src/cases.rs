@@ -1,7 +1,7 @@
 //! Cases made from a seed, one kind of call each: messages right and wrong, buffers of any size, states that no run reaches. Each answers what came
 //! of the call, so that a test can see that nothing stays untried: a refusal's number, or ACCEPTED with the kind of answer added.
 
-use crate::{board, compare, expected, run, Twin, Verdict};
+use crate::{board, compare, expected, record_cases, run, Twin, Verdict};
 use reader::{Form, LONGEST, STREAM_BYTES, SUMMED_BYTES};
 use streams::Random;
 
@@ -32,7 +32,7 @@ const CUT_UNKNOWN: u64 = ACCEPTED + board::CUT_UNKNOWN;
 const CUT_SHORT: u64 = ACCEPTED + board::CUT_SHORT;
 const CHECKSUM: u64 = ACCEPTED + board::CHECKSUM;
 
-pub const KINDS: [Kind; 12] = [
+pub const KINDS: [Kind; 16] = [
     Kind { name: "check", attempt: check, outcomes: &[1, 2, 3, 4, ACCEPTED] },
     Kind { name: "read", attempt: read, outcomes: &[1, 2, 3, 4, 5, ACCEPTED] },
     Kind { name: "start", attempt: start, outcomes: &[6, ACCEPTED] },
@@ -45,9 +45,13 @@ pub const KINDS: [Kind; 12] = [
     Kind { name: "feed", attempt: feed, outcomes: &[8, 9, 10, 11, NEEDS_MORE, MESSAGE] },
     Kind { name: "finish", attempt: finish, outcomes: &[8, 9, MESSAGE, END] },
     Kind { name: "run", attempt: whole_run, outcomes: &[ACCEPTED] },
+    Kind { name: "rangecmp_read", attempt: record_cases::read, outcomes: &[13, ACCEPTED] },
+    Kind { name: "rangecmp_write", attempt: record_cases::write, outcomes: &[23, 6, ACCEPTED] },
+    Kind { name: "rangecmp_adr", attempt: record_cases::adr, outcomes: &[13, 22, ACCEPTED] },
+    Kind { name: "rangecmp_deviations", attempt: record_cases::deviations, outcomes: &[ACCEPTED] },
 ];
 
-fn outcome(refusal: u64, kind: u64) -> u64 {
+pub(crate) fn outcome(refusal: u64, kind: u64) -> u64 {
     if refusal == 0 {
         ACCEPTED + kind
     } else {
@@ -95,7 +99,7 @@ fn read(random: &mut Random) -> Verdict<u64> {
 }
 
 /// A buffer full of anything, of about this length.
-fn buffer(random: &mut Random, about: usize) -> Vec<u8> {
+pub(crate) fn buffer(random: &mut Random, about: usize) -> Vec<u8> {
     let length = match random.below(6) {
         0 => random.below(about + 1),
         1 => about,

@@ -171,3 +171,52 @@ fn within(what: &str, double: f64, whole: i128, coarse: u32, fine: u32, most: i1
     let off = signed * 10i128.pow(fine) - whole * 10i128.pow(fine - coarse) * scale;
     same(what, off.abs() <= most * scale, true)
 }
+
+/// A call that only reads: what the board answers, and that the bytes and what surrounds them stay as they are.
+fn reads<T: PartialEq + std::fmt::Debug>(what: &str, bytes: &[u8], board: fn(&[u8]) -> T, expected: T) -> Verdict<T> {
+    let lent = Lent::new(bytes);
+    let answer = board(lent.contents());
+    same(what, &answer, &expected)?;
+    same_bytes(what, lent.contents(), bytes)?;
+    lent.margins_stand(what)?;
+    Ok(answer)
+}
+
+/// What is read is written as the same bytes.
+pub fn rangecmp_read(bytes: &[u8]) -> Verdict<u64> {
+    let record = reads("rangecmp_read", bytes, board::rangecmp_read, expected::rangecmp(reader::read_record(bytes)))?;
+    if record.refusal == 0 {
+        let mut back = [0; reader::RECORD_BYTES];
+        same("rangecmp_write of what was read", board::rangecmp_write(&mut back, record).refusal, 0)?;
+        same_bytes("rangecmp: there and back", &back, bytes)?;
+    }
+    Ok(record.refusal)
+}
+
+/// What is written is read as the same numbers.
+pub fn rangecmp_write(output: &[u8], record: board::Rangecmp) -> Verdict<u64> {
+    let mut after = Vec::new();
+    let board = |lent: &mut [u8]| {
+        let written = board::rangecmp_write(lent, record);
+        after = lent.to_vec();
+        written
+    };
+    let reader = |copy: &mut [u8]| expected::written(reader::write_record(copy, &expected::rangecmp_fields(record)));
+    let written = writes("rangecmp_write", output, board, reader)?;
+    if written.refusal == 0 {
+        let read = board::rangecmp_read(&after[..written.length as usize]);
+        same("rangecmp_read of what was written", read, board::Rangecmp { refusal: 0, ..record })?;
+    }
+    unchanged_if_refused("rangecmp_write", written.refusal, output, &after)
+}
+
+pub fn rangecmp_adr(bytes: &[u8]) -> Verdict<u64> {
+    let adr = reads("rangecmp_adr", bytes, board::rangecmp_adr, expected::adr(reader::corrected_adr(bytes)))?;
+    Ok(adr.refusal)
+}
+
+/// What a code says of the range, and of the ADR.
+pub fn rangecmp_deviations(code: u64) -> Verdict<()> {
+    same(&format!("rangecmp_range_mm of {code}"), board::rangecmp_range_mm(code), reader::range_mm(code))?;
+    same(&format!("rangecmp_adr_512ths of {code}"), board::rangecmp_adr_512ths(code), reader::adr_512ths(code))
+}

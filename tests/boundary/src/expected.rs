@@ -84,6 +84,32 @@ pub fn answer(answer: Result<reader::Answer, Refusal>) -> board::Answer {
     }
 }
 
+pub fn rangecmp(answer: Result<reader::Record, Refusal>) -> board::Rangecmp {
+    match answer {
+        Ok(record) => board::Rangecmp {
+            refusal: 0,
+            status: record.status,
+            doppler: record.doppler,
+            range: record.range,
+            adr: record.adr,
+            range_deviation: record.range_deviation,
+            adr_deviation: record.adr_deviation,
+            prn: record.prn,
+            lock: record.lock,
+            cn0: record.cn0,
+            reserved: record.reserved,
+        },
+        Err(refusal) => board::Rangecmp { refusal, ..Default::default() },
+    }
+}
+
+pub fn adr(answer: Result<(i64, i64), Refusal>) -> board::Adr {
+    match answer {
+        Ok((rolls, adr)) => board::Adr { refusal: 0, rolls, adr },
+        Err(refusal) => board::Adr { refusal, ..Default::default() },
+    }
+}
+
 /// The low bits of each number go into its field, and a form that is not the old one is the new one.
 pub fn header_fields(header: board::Header) -> reader::Header {
     let (time, offset) = (header.time as u32, header.offset as u32);
@@ -103,5 +129,21 @@ pub fn observation_fields(observation: board::Observation) -> reader::Observatio
         pseudorange: observation.pseudorange as u32,
         rate: observation.rate as i32,
         lock: observation.lock as u32,
+    }
+}
+
+/// All but the refusal, which writing does not look at.
+pub fn rangecmp_fields(record: board::Rangecmp) -> reader::Record {
+    reader::Record {
+        status: record.status,
+        doppler: record.doppler,
+        range: record.range,
+        adr: record.adr,
+        range_deviation: record.range_deviation,
+        adr_deviation: record.adr_deviation,
+        prn: record.prn,
+        lock: record.lock,
+        cn0: record.cn0,
+        reserved: record.reserved,
     }
 }

@@ -5,6 +5,7 @@ pub mod cases;
 mod compare;
 mod expected;
 mod lent;
+mod record_cases;
 mod run;
 mod twin;
 

@@ -1,7 +1,7 @@
 //! Buffers that end, or begin, at memory nobody may touch: a call that reads or writes one byte outside of what it is lent ends the program.
 
 use boundary::{board, reasons};
-use reader::LONGEST;
+use reader::{LONGEST, RECORD_BYTES};
 use std::ffi::{c_int, c_long, c_void};
 use streams::Random;
 
@@ -78,6 +78,23 @@ fn one_message() {
         board::start(output, board::Header { form: random.below(3) as u64, ..Default::default() }, random.below(4) as u8);
         board::set(message, random.below(3), board::Observation::default());
         assert_eq!(board::check(message), refusal);
+    }
+}
+
+/// Records and outputs of all lengths up to twice that of a record, at both walls.
+#[test]
+fn records() {
+    let (mut lent, mut put) = (Walled::new(), Walled::new());
+    for (mut random, _) in streams_from(SEED, 100) {
+        for (length, at_the_end) in (0..=2 * RECORD_BYTES).flat_map(|length| [(length, true), (length, false)]) {
+            let (bytes, output) = (lent.bytes(length, at_the_end, &random.bytes(length)), put.bytes(length, at_the_end, &[]));
+            assert_eq!(board::rangecmp_read(bytes).refusal, reader::read_record(bytes).err().unwrap_or(0));
+            assert_eq!(board::rangecmp_adr(bytes).refusal, reader::corrected_adr(bytes).err().unwrap_or(0));
+            let whole = random.bytes(RECORD_BYTES);
+            let written = board::rangecmp_write(output, board::rangecmp_read(&whole));
+            assert_eq!(written.refusal, if length < RECORD_BYTES { 6 } else { 0 });
+            assert!(written.refusal == 6 || output.starts_with(&whole));
+        }
     }
 }
 

@@ -59,3 +59,8 @@ fn finish_in_any_state() {
 fn whole_runs() {
     named("run");
 }
+
+#[test]
+fn records() {
+    ["rangecmp_read", "rangecmp_write", "rangecmp_adr", "rangecmp_deviations"].into_iter().for_each(named);
+}

@@ -5,13 +5,16 @@
 mod division;
 mod message;
 mod numbers;
+mod rangecmp;
 mod reason;
 mod stream;
+mod whole;
 mod work;
 
 pub use division::{divide, message_at, next, Division, Found, Given};
 pub use message::{check, checksum, read, set, start, to_new, to_old, Form, Header, Message, Observation, Reading};
 pub use numbers::{lock_ms, phase, plot_row, range_um, Phase};
+pub use rangecmp::{adr_512ths, corrected_adr, range_mm, read_record, write_record, Record, RECORD_BYTES};
 pub use reason::{reasons, why, Reason};
 pub use stream::{feed, finish, standing, Answer, Standing, State, STREAM_BYTES, SUMMED_BYTES};
 pub use work::{most_work, work};
@@ -19,5 +22,5 @@ pub use work::{most_work, work};
 /// The length of the longest message, which is of the new form with 255 observations.
 pub const LONGEST: usize = 6136;
 
-/// A refusal's number in document 01's table, 1 to 12.
+/// A refusal's number: document 01's 1 to 12, and E4's 13, 22 and 23.
 pub type Refusal = u64;

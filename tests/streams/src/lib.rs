@@ -1,11 +1,13 @@
 //! The streams that the readers are tried with: a generator of numbers, messages whose fields hold sync letters and other messages, forged counts,
-//! overlapping starts, cut ends and damaged bytes. Everything follows from a seed.
+//! overlapping starts, cut ends and damaged bytes; and NovAtel's records. Everything follows from a seed.
 
 mod parts;
 mod random;
+mod record;
 
 pub use parts::{damage, message, observation, piece_of_stream, stream};
 pub use random::Random;
+pub use record::record;
 
 /// Cuts this many bytes into pieces: all single bytes, all in one, or random lengths with empty pieces among them.
 pub fn cuts(random: &mut Random, length: usize) -> Vec<usize> {
