@@ -149,7 +149,7 @@ bench() {
     build
     mkdir -p target/bench || exit 2
     compile listing bench/listing.c bench/reader.c
-    compile bench bench/bench.c bench/process.c bench/reader.c bench/streams.c build/libcablesound.a
+    compile bench bench/bench.c bench/process.c bench/reader.c bench/record.c bench/records.c bench/streams.c build/libcablesound.a
     await setsid target/bench/bench target/bench target/bin/listing
 }
 
