@@ -1,5 +1,5 @@
-pub mod Places
 pub mod RollSteps
 pub mod EntrySteps
 pub mod WriteSteps
+pub mod Worked
 pub mod Determined

@@ -20,16 +20,20 @@ use Rattle.compose.specs.Set.{setOf, setBytes}
 use Rattle.compose.specs.Convert.{convertOf, convertBytes}
 use Rattle.division.specs.Plain.{nextOf}
 use Rattle.reason.specs.Reason.{reasonOf}
+use Rattle.novatel.specs.declared.Record.{Record}
+use Rattle.novatel.specs.Entries.{readingOf, writingOf, writingBytes, correctionOf}
 use Rattle.stream.specs.declared.State.{State}
 use Rattle.stream.specs.Reader.{feedCall, finishCall}
 use Rattle.owed.specs.Meets.{AsksNothing}
-use Rattle.promises.specs.Numbers.{readNumber, nextNumber, reasonNumber, answerNumber, Refuses, Unchanged, CheckTable, ReadTable, SetTable, StartTable, ConvertTable, NextTable, ReasonTable, FinishTable, FeedTable}
+use Rattle.promises.specs.Numbers.{readNumber, nextNumber, reasonNumber, recordNumber, correctionNumber, answerNumber, Refuses, Unchanged, CheckTable, ReadTable, SetTable, StartTable, ConvertTable, NextTable, ReasonTable, FinishTable, FeedTable, RecordTable, CorrectionTable, RecordWriteTable}
 use Rattle.promises.proofs.Numbers as numbers
 use Rattle.promises.proofs.Unchanged as unchanged
 use Rattle.octets.proofs as octets
+use Rattle.bits.proofs as bits
 use Rattle.units.proofs as units
 use Rattle.refusal.proofs as refusals
 use Rattle.macm.proofs as macm
+use Rattle.novatel.proofs as novatel
 use Rattle.compose.proofs as compose
 use Rattle.track.proofs as track
 use Rattle.front.proofs as front
@@ -42,7 +46,7 @@ use Rattle.text.proofs as text
 use Rattle.lines.proofs as lines
 use Rattle.board.proofs as board
 
--- ---- it refuses by 01's numbers: each under its condition, in the order of the tests, and 0 where none holds (promises/specs/Numbers.antt)
+-- ---- it refuses by the numbers of 01 and 02: each under its condition, in the order of the tests, and 0 where none holds (promises/specs/Numbers.antt)
 pub check-by-number : (m : List ℕ) → CheckTable m (checkNumber (verdict m))
 check-by-number m = numbers.check-table m
 
@@ -65,6 +69,15 @@ next-by-number s start = numbers.next-table s start
 pub why-by-number : (s : List ℕ) (p : ℕ) → ReasonTable s p (reasonNumber (reasonOf s p))
 why-by-number s p = numbers.reason-table s p
 
+pub record-by-number : (s : List ℕ) → RecordTable s (recordNumber (readingOf s))
+record-by-number s = numbers.record-table s
+
+pub correction-by-number : (s : List ℕ) → CorrectionTable s (correctionNumber (correctionOf s))
+correction-by-number s = numbers.correction-table s
+
+pub record-write-by-number : (r : Record) (out : List ℕ) → RecordWriteTable r out (writtenNumber (writingOf r out))
+record-write-by-number r out = numbers.record-write-table r out
+
 pub feed-by-number : (s : State) (p w o : List ℕ) → FeedTable s p w o (answerNumber (feedCall s p w o .answer))
 feed-by-number s p w o = numbers.feed-table s w o p
 
@@ -80,6 +93,9 @@ set-refused m j o r = unchanged.set-unchanged m j o r
 
 pub convert-refused : (g : Form) (m out : List ℕ) → Refuses (convertOf g m out) → convertBytes g m out ≡ out
 convert-refused g m out r = unchanged.convert-unchanged g m out r
+
+pub record-write-refused : (r : Record) (out : List ℕ) → Refuses (writingOf r out) → writingBytes r out ≡ out
+record-write-refused r out h = unchanged.record-unchanged r out h
 
 pub refused-hands-back-nothing : (w : Written) → Refuses w → writtenLength w ≡ 0
 refused-hands-back-nothing w r = unchanged.no-length w r
@@ -121,6 +137,14 @@ pub track-asks-nothing :
     × AsksNothing track.condition_of.ended track.condition_of.Reads.Asked
 track-asks-nothing = ((λ κs a. tt), (λ κs a. tt), (λ κs a. tt), (λ κs a. tt), (λ κs a. tt))
 
+pub records-ask-nothing :
+    AsksNothing novatel.read_record.ended novatel.read_record.Reads.Asked
+    × AsksNothing novatel.write_record.ended novatel.write_record.Reads.Asked
+    × AsksNothing novatel.corrected_adr.ended novatel.corrected_adr.Reads.Asked
+    × AsksNothing novatel.deviation_of_range.ended novatel.deviation_of_range.Reads.Asked
+    × AsksNothing novatel.deviation_of_adr.ended novatel.deviation_of_adr.Reads.Asked
+records-ask-nothing = ((λ κs a. tt), (λ κs a. tt), (λ κs a. tt), (λ κs a. tt), (λ κs a. tt))
+
 pub board-asks-nothing :
     AsksNothing board.cs_check.ended board.cs_check.Reads.Asked
     × AsksNothing board.cs_read.ended board.cs_read.Reads.Asked
@@ -135,8 +159,13 @@ pub board-asks-nothing :
     × AsksNothing board.cs_lock_ms.ended board.cs_lock_ms.Reads.Asked
     × AsksNothing board.cs_phase.ended board.cs_phase.Reads.Asked
     × AsksNothing board.cs_plot_row.ended board.cs_plot_row.Reads.Asked
+    × AsksNothing board.cs_rangecmp_read.ended board.cs_rangecmp_read.Reads.Asked
+    × AsksNothing board.cs_rangecmp_write.ended board.cs_rangecmp_write.Reads.Asked
+    × AsksNothing board.cs_rangecmp_adr.ended board.cs_rangecmp_adr.Reads.Asked
+    × AsksNothing board.cs_rangecmp_range_mm.ended board.cs_rangecmp_range_mm.Reads.Asked
+    × AsksNothing board.cs_rangecmp_adr_512ths.ended board.cs_rangecmp_adr_512ths.Reads.Asked
 board-asks-nothing =
-    ((λ κs a. tt), (λ κs a. tt), (λ κs a. tt), (λ κs a. tt), (λ κs a. tt), (λ κs a. tt), (λ κs a. tt), (λ κs a. tt), (λ κs a. tt), (λ κs a. tt), (λ κs a. tt), (λ κs a. tt), (λ κs a. tt))
+    ((λ κs a. tt), (λ κs a. tt), (λ κs a. tt), (λ κs a. tt), (λ κs a. tt), (λ κs a. tt), (λ κs a. tt), (λ κs a. tt), (λ κs a. tt), (λ κs a. tt), (λ κs a. tt), (λ κs a. tt), (λ κs a. tt), (λ κs a. tt), (λ κs a. tt), (λ κs a. tt), (λ κs a. tt), (λ κs a. tt))
 
 -- and the parts that the entries are made of
 pub bytes-ask-nothing :
@@ -146,11 +175,22 @@ pub bytes-ask-nothing :
     × AsksNothing octets.starts.ended octets.starts.Reads.Asked
     × AsksNothing octets.number_of.ended octets.number_of.Reads.Asked
     × AsksNothing octets.put_number.ended octets.put_number.Reads.Asked
+    × AsksNothing octets.signed_in.ended octets.signed_in.Reads.Asked
+    × AsksNothing octets.raw_in.ended octets.raw_in.Reads.Asked
+    × AsksNothing octets.holds_signed.ended octets.holds_signed.Reads.Asked
     × AsksNothing octets.signed_of.ended octets.signed_of.Reads.Asked
     × AsksNothing octets.raw_of.ended octets.raw_of.Reads.Asked
     × AsksNothing octets.clear.ended octets.clear.Reads.Asked
     × AsksNothing octets.copy.ended octets.copy.Reads.Asked
-bytes-ask-nothing = ((λ κs a. tt), (λ κs a. tt), (λ κs a. tt), (λ κs a. tt), (λ κs a. tt), (λ κs a. tt), (λ κs a. tt), (λ κs a. tt), (λ κs a. tt), (λ κs a. tt))
+bytes-ask-nothing = ((λ κs a. tt), (λ κs a. tt), (λ κs a. tt), (λ κs a. tt), (λ κs a. tt), (λ κs a. tt), (λ κs a. tt), (λ κs a. tt), (λ κs a. tt), (λ κs a. tt), (λ κs a. tt), (λ κs a. tt), (λ κs a. tt))
+
+pub fields-ask-nothing :
+    AsksNothing bits.field.ended bits.field.Reads.Asked
+    × AsksNothing bits.put_field.ended bits.put_field.Reads.Asked
+    × AsksNothing bits.signed_field.ended bits.signed_field.Reads.Asked
+    × AsksNothing bits.put_signed_field.ended bits.put_signed_field.Reads.Asked
+    × AsksNothing bits.holds.ended bits.holds.Reads.Asked
+fields-ask-nothing = ((λ κs a. tt), (λ κs a. tt), (λ κs a. tt), (λ κs a. tt), (λ κs a. tt))
 
 pub units-ask-nothing :
     AsksNothing units.LockCount.from_count.ended units.LockCount.from_count.Reads.Asked
@@ -181,8 +221,11 @@ pub words-ask-nothing :
     × AsksNothing words.reason_words.ended words.reason_words.Reads.Asked
     × AsksNothing words.answer_words.ended words.answer_words.Reads.Asked
     × AsksNothing words.phase_words.ended words.phase_words.Reads.Asked
+    × AsksNothing words.record_in.ended words.record_in.Reads.Asked
+    × AsksNothing words.record_words.ended words.record_words.Reads.Asked
+    × AsksNothing words.adr_words.ended words.adr_words.Reads.Asked
 words-ask-nothing =
-    ((λ κs a. tt), (λ κs a. tt), (λ κs a. tt), (λ κs a. tt), (λ κs a. tt), (λ κs a. tt), (λ κs a. tt), (λ κs a. tt), (λ κs a. tt))
+    ((λ κs a. tt), (λ κs a. tt), (λ κs a. tt), (λ κs a. tt), (λ κs a. tt), (λ κs a. tt), (λ κs a. tt), (λ κs a. tt), (λ κs a. tt), (λ κs a. tt), (λ κs a. tt), (λ κs a. tt))
 
 pub text-asks-nothing :
     AsksNothing text.put.ended text.put.Reads.Asked

@@ -3,7 +3,10 @@ pub mod DemandTwo
 pub mod DemandThree
 pub mod Reasons
 pub mod Ranges
+pub mod Records
 pub mod WrongPrograms
+pub mod NearestAway
+pub mod RecordBack
 pub mod Numbers
 pub mod Unchanged
 pub mod OneByte

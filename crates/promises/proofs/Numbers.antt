@@ -1,7 +1,7 @@
 -- Each entry refuses by document 01's numbers: each number under its condition and no other, and 0 where none holds. Assumes nothing.
 use Prim.Native.Nat.{ℕ, _+_, _-_, _≤_, _<_}
 use mathlib.Core.Path.{_≡_, refl, sym, ap, _∙_}
-use mathlib.Core.Bool.{Bool, true, false, cond}
+use mathlib.Core.Bool.{Bool, true, false, cond, _&&_, true≢false}
 use mathlib.Core.Logic.{_⊎_, inl, inr, ⊎-elim}
 use mathlib.Core.List.{List, _++_}
 use native.Mathlib.Omega.{arith}
@@ -10,7 +10,7 @@ use lib.Dec.{ltb, leb, eqb}
 use borrow.Author.Tests.{ltb-true, ltb-false, leb-true, leb-false, eqb-true, eqb-false, le-ltb}
 use Rattle.octets.specs.Begins.{fit, begins}
 use Rattle.octets.specs.Parts.{part}
-use Rattle.refusal.specs.declared.Refusal.the-variants.{NoObservation, NoRoom, OtherForm, PastEnd}
+use Rattle.refusal.specs.declared.Refusal.the-variants.{NoObservation, NoRoom, OtherForm, PastEnd, OtherLength, OtherSignal, TooWide}
 use Rattle.refusal.proofs.Numbered.{positive}
 use Rattle.macm.specs.declared.Form.{Form}
 use Rattle.macm.specs.declared.Form.the-variants.{New, Old}
@@ -44,7 +44,16 @@ use Rattle.stream.specs.Feed.{Fed, given, more, feed, finish}
 use Rattle.stream.specs.Reader.{feedCall, finishCall, fedCall, finishedCall}
 use Rattle.stream.specs.Steps.{Allowed}
 use Rattle.stream.proofs.Cases.{Small, Bad, finish-cases, feed-cases}
-use Rattle.promises.specs.Numbers.{readNumber, nextNumber, reasonNumber, answerNumber, Differs, OfForm, CheckTable, ReadTable, SetTable, Room, StartTable, ConvertTable, NextTable, ReasonTable, Buffers, Sound, FinishTable, FeedTable}
+use Rattle.bits.specs.Fields.{cut}
+use Rattle.novatel.specs.declared.Record.{Record}
+use Rattle.novatel.specs.declared.Reading.the-variants.{Refused as NoRecord, Read}
+use Rattle.novatel.specs.declared.Correction.{Correction}
+use Rattle.novatel.specs.declared.Correction.the-variants.{Refused as NotCorrected, Corrected}
+use Rattle.novatel.specs.Record.{recordOf, fits}
+use Rattle.novatel.specs.Entries.{readingOf, writingOf, saysGps, correctionIn, correctionOf}
+use Rattle.novatel.specs.Rolls.{rollsOf, correctedOf}
+use Rattle.promises.proofs.RecordBack.{fitting, holding}
+use Rattle.promises.specs.Numbers.{readNumber, nextNumber, reasonNumber, recordNumber, correctionNumber, answerNumber, Differs, OfForm, CheckTable, ReadTable, SetTable, Room, StartTable, ConvertTable, NextTable, ReasonTable, Buffers, Sound, FinishTable, FeedTable, RecordTable, CorrectionTable, RecordWriteTable}
 
 -- ---- the message check
 module _ (m : List ℕ) where
@@ -204,6 +213,40 @@ reason-table s p = go (ltb p (length s)) refl (ltb (coverOf s p) p)
     go true e false =
         let l = ltb-true p (length s) e in
         inr (rw (here-some (drop p s) (λ z. omega (arith, length-drop p s))) (said-number (claim (drop p s)) (drop p s)), l)
+
+-- ---- the range record
+pub record-table : (s : List ℕ) → RecordTable s (recordNumber (readingOf s))
+unfolding readingOf
+record-table s = go (eqb (length s) 24) refl
+  where
+    go : (a : Bool) → eqb (length s) 24 ≡ a → RecordTable s (recordNumber (cond a (Read (recordOf s)) (NoRecord OtherLength)))
+    go true p = inr (refl, eqb-true (length s) 24 p)
+    go false p = inl (refl, eqb-false (length s) 24 p)
+
+pub correction-table : (s : List ℕ) → CorrectionTable s (correctionNumber (correctionOf s))
+unfolding correctionOf correctionIn saysGps
+correction-table s = go (eqb (length s) 24) refl (eqb (cut 16 3 status) 0) refl (eqb (cut 21 5 status) 0) refl
+  where
+    status : ℕ
+    status = recordOf s .status
+
+    there : Correction
+    there = Corrected (rollsOf (recordOf s .range) (recordOf s .adr)) (correctedOf (recordOf s .range) (recordOf s .adr))
+
+    go : (a : Bool) → eqb (length s) 24 ≡ a → (b : Bool) → eqb (cut 16 3 status) 0 ≡ b → (c : Bool) → eqb (cut 21 5 status) 0 ≡ c
+        → CorrectionTable s (correctionNumber (cond a (cond (b && c) there (NotCorrected OtherSignal)) (NotCorrected OtherLength)))
+    go false p b q c r = inl (refl, eqb-false (length s) 24 p)
+    go true p false q c r = inr (eqb-true (length s) 24 p, inl (refl, λ g. eqb-false (cut 16 3 status) 0 q (g .0)))
+    go true p true q false r = inr (eqb-true (length s) 24 p, inl (refl, λ g. eqb-false (cut 21 5 status) 0 r (g .1)))
+    go true p true q true r = inr (eqb-true (length s) 24 p, inr (refl, (eqb-true (cut 16 3 status) 0 q, eqb-true (cut 21 5 status) 0 r)))
+
+pub record-write-table : (r : Record) (out : List ℕ) → RecordWriteTable r out (writtenNumber (writingOf r out))
+unfolding writingOf
+record-write-table r out = go (fits r) refl
+  where
+    go : (a : Bool) → fits r ≡ a → RecordWriteTable r out (writtenNumber (cond a (cond (leb 24 (length out)) (Length 24) (NotWritten NoRoom)) (NotWritten TooWide)))
+    go true p = inr (fitting r p, room-table 24 (length out))
+    go false p = inl (refl, λ h. true≢false (sym (holding r h) ∙ p))
 
 -- ---- the stream reader
 module _ (s : State) (w o : List ℕ) where

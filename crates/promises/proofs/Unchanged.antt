@@ -5,7 +5,7 @@ use mathlib.Core.Bool.{Bool, true, false, cond}
 use mathlib.Core.List.{List}
 use lib.ListN.{length}
 use lib.Dec.{ltb, leb}
-use Rattle.refusal.specs.declared.Refusal.the-variants.{NoObservation, NoRoom, OtherForm}
+use Rattle.refusal.specs.declared.Refusal.the-variants.{NoObservation, NoRoom, OtherForm, TooWide}
 use Rattle.octets.specs.Parts.{over}
 use Rattle.macm.specs.declared.Form.{Form}
 use Rattle.macm.specs.declared.Header.{Header}
@@ -20,6 +20,9 @@ use Rattle.refusal.specs.Written.{writtenLength}
 use Rattle.compose.specs.Start.{started, startOf, startBytes}
 use Rattle.compose.specs.Set.{withObservation, setBy, setOf, setBytesBy, setBytes}
 use Rattle.compose.specs.Convert.{allowed, converted, convertBy, convertOf, convertBytesBy, convertBytes}
+use Rattle.novatel.specs.declared.Record.{Record}
+use Rattle.novatel.specs.Record.{recordBytes, fits}
+use Rattle.novatel.specs.Entries.{writingOf, writingBytes}
 use Rattle.stream.specs.declared.State.{State}
 use Rattle.stream.specs.Feed.{Fed, given, more, feed, finish}
 use Rattle.stream.specs.Reader.{fedCall, feedCall, finishedCall, finishCall}
@@ -60,6 +63,15 @@ convert-unchanged g m out = go (verdict m)
         test true true h = absurd (h refl)
         test true false h = refl
         test false b h = refl
+
+pub record-unchanged : (r : Record) (out : List ℕ) → Refuses (writingOf r out) → writingBytes r out ≡ out
+unfolding writingOf writingBytes
+record-unchanged r out = go (fits r) (leb 24 (length out))
+  where
+    go : (a b : Bool) → Refuses (cond a (cond b (Length 24) (NotWritten NoRoom)) (NotWritten TooWide)) → cond a (cond b (over (recordBytes r) out) out) out ≡ out
+    go true true h = absurd (h refl)
+    go true false h = refl
+    go false b h = refl
 
 pub no-length : (w : Written) → Refuses w → writtenLength w ≡ 0
 no-length (NotWritten r) h = refl

@@ -6,6 +6,7 @@ pub mod Given
 pub mod Reason
 pub mod Work
 pub mod Range
+pub mod Record
 pub mod Numbers
 pub mod Calls
 pub mod InPlace

@@ -1,4 +1,4 @@
--- Document 01's numbers, each with the condition under which an entry gives it, in the order of the tests. Definitions only.
+-- The numbers of documents 01 and 02, each with the condition under which an entry gives it, in the order of the tests. Definitions only.
 use Prim.Native.Nat.{ℕ, _+_, _-_, _^_, _≤_, _<_}
 use mathlib.Core.Path.{_≡_}
 use mathlib.Core.Bool.{true, false}
@@ -27,6 +27,13 @@ use Rattle.stream.specs.declared.State.{State}
 use Rattle.stream.specs.declared.Answer.{Answer}
 use Rattle.stream.specs.declared.Answer.the-variants.{Refused, NeedsMore, Message, End}
 use Rattle.stream.specs.Reader.{Call}
+use Rattle.novatel.specs.declared.Record.{Record}
+use Rattle.novatel.specs.declared.Reading.{Reading as Recorded}
+use Rattle.novatel.specs.declared.Reading.the-variants.{Refused as NoRecord, Read}
+use Rattle.novatel.specs.declared.Correction.{Correction}
+use Rattle.novatel.specs.declared.Correction.the-variants.{Refused as NotCorrected, Corrected}
+use Rattle.novatel.specs.Record.{recordOf}
+use Rattle.promises.specs.Record.{Holds, OfGps}
 
 -- ---- the number of an answer: 0 where it is no refusal
 abbrev pub readNumber : Reading → ℕ
@@ -47,6 +54,14 @@ reasonNumber (Sync k) = 0
 reasonNumber CutUnknown = 0
 reasonNumber (CutShort n) = 0
 reasonNumber (Checksum residue) = 0
+
+abbrev pub recordNumber : Recorded → ℕ
+recordNumber (NoRecord r) = numberOf r
+recordNumber (Read r) = 0
+
+abbrev pub correctionNumber : Correction → ℕ
+correctionNumber (NotCorrected r) = numberOf r
+correctionNumber (Corrected rolls adr) = 0
 
 abbrev pub answerNumber : Answer → ℕ
 answerNumber (Refused r) = numberOf r
@@ -126,3 +141,15 @@ FinishTable s w o n = AfterState (λ i. i ≡ 0) s w o n
 abbrev pub FeedTable : State → List ℕ → List ℕ → List ℕ → ℕ → Type 0
 FeedTable s p w o n =
     AfterState (λ i. ((i ≡ 10) × (s .ended ≡ 0 → ⊥)) ⊎ ((s .ended ≡ 0) × (((i ≡ 11) × (2 ^ 48 < s .total + length p)) ⊎ ((i ≡ 0) × (s .total + length p ≤ 2 ^ 48))))) s w o n
+
+-- ---- a range record: 13 a length other than 24; 22 a corrected ADR of another signal
+abbrev pub RecordTable : List ℕ → ℕ → Type 0
+RecordTable s n = ((n ≡ 13) × (length s ≡ 24 → ⊥)) ⊎ ((n ≡ 0) × (length s ≡ 24))
+
+abbrev pub CorrectionTable : List ℕ → ℕ → Type 0
+CorrectionTable s n =
+    ((n ≡ 13) × (length s ≡ 24 → ⊥)) ⊎ ((length s ≡ 24) × (((n ≡ 22) × (OfGps (recordOf s .status) → ⊥)) ⊎ ((n ≡ 0) × OfGps (recordOf s .status))))
+
+-- 23 a number that its field cannot hold, then 6
+abbrev pub RecordWriteTable : Record → List ℕ → ℕ → Type 0
+RecordWriteTable r out n = ((n ≡ 23) × (Holds r → ⊥)) ⊎ (Holds r × Room 24 (length out) n)

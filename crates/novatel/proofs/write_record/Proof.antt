@@ -3,7 +3,7 @@ use mathlib.Core.Path.{sym, _∙_}
 use native.Mathlib.Omega.{arith}
 use lib.Seq.{length-take-le}
 use Rattle.novatel.proofs.EntrySteps.{write-wide, write-room, write-done}
-use Rattle.novatel.proofs.WriteSteps.{fitting}
+use Rattle.novatel.proofs.WriteSteps.{least-cn0}
 use borrow.Author.Needs.{needs}
 use Rattle.novatel.proofs.write_record.Statement.{statement}
 use Rattle.novatel.proofs.write_record.Tie as tie
@@ -27,7 +27,7 @@ fill-requires : tie.Need-fill-requires
 fill-requires c κs =
     let start = c .before .before .before .before .before in
     let told = c .before .before .before in
-    (length-take-le 24 (start .args .out .now) (omega arith), fitting (start .args .fields) (sym (told .fitting .ensures) ∙ c .before .before .if1 .taken) .least)
+    (length-take-le 24 (start .args .out .now) (omega arith), least-cn0 (start .args .fields) (sym (told .fitting .ensures) ∙ c .before .before .if1 .taken))
 
 same-length : tie.Need-same-length
 same-length c = search needs
