@@ -1,7 +1,10 @@
-// The messages that 264-21 and 264-04 publish, and the lines of document 01's sample table that are to be run, through the library: what it reads of
-// them is printed, and held to what the second reader prints.
+// The messages that 264-21 and 264-04 publish and the range record of APN-031, and the lines of document 01's sample table that are to be run, through the
+// library: what it reads of them is printed, and held to what the second reader prints.
 use division::Next;
 use macm::Verdict;
+use novatel::Correction;
+use novatel::Reading;
+use novatel::Record;
 use stream::Answer;
 use stream::Reply;
 
@@ -12,6 +15,21 @@ fn put_count(text: &mut [u8], at: usize, word: &[u8], n: u64) -> usize {
     let next = text::put_all(text, at, word);
     let next = text::put_decimal(text, next, n);
     text::put(text, next, b'\n')
+}
+
+// The same of a number that may be negative.
+fn put_signed(text: &mut [u8], at: usize, word: &[u8], z: i64) -> usize {
+    let raw = octets::raw_in(z, 64);
+    if z < 0 {
+        let next = text::put_all(text, at, word);
+        return put_count(
+            text,
+            next,
+            b"-",
+            std::num::wrapping_add_u64(u64::MAX - raw, 1),
+        );
+    }
+    put_count(text, at, word, raw)
 }
 
 // A message after its gap: its line and its rows.
@@ -117,6 +135,82 @@ fn put_calls(text: &mut [u8], at: usize) -> usize {
     put_reply(text, next, reply, &output)
 }
 
+// ---- NovAtel's range record
+
+fn put_fields(text: &mut [u8], at: usize, r: Record) -> usize {
+    let next = text::put_all(text, at, b"status ");
+    let next = text::put_hex(text, next, r.status, 8);
+    let next = text::put(text, next, b'\n');
+    let next = put_signed(text, next, b"doppler ", r.doppler);
+    let next = put_count(text, next, b"range ", r.range);
+    let next = put_signed(text, next, b"adr ", r.adr);
+    let code = r.range_deviation;
+    let next = put_count(text, next, b"range_deviation ", code);
+    let next = put_count(text, next, b"range_mm ", novatel::deviation_of_range(code));
+    let code = r.adr_deviation;
+    let next = put_count(text, next, b"adr_deviation ", code);
+    let next = put_count(text, next, b"adr_512ths ", novatel::deviation_of_adr(code));
+    let next = put_count(text, next, b"prn ", r.prn);
+    let next = put_count(text, next, b"lock ", r.lock);
+    let next = put_count(text, next, b"cn0 ", r.cn0);
+    put_count(text, next, b"reserved ", r.reserved)
+}
+
+fn put_correction(text: &mut [u8], at: usize, bytes: &[u8]) -> usize {
+    match novatel::corrected_adr(bytes) {
+        Correction::Corrected { rolls, adr } => {
+            let next = put_signed(text, at, b"rolls ", rolls);
+            put_signed(text, next, b"corrected ", adr)
+        }
+        Correction::Refused(refusal) => put_count(text, at, b"refused ", refusal::number(refusal)),
+    }
+}
+
+// The record that APN-031 publishes, and its corrected ADR.
+fn put_record(text: &mut [u8], at: usize, name: &[u8]) -> usize {
+    let mut bytes = [0u8; 24];
+    load(name, &mut bytes);
+    let next = text::put_all(text, at, name);
+    let next = text::put(text, next, b'\n');
+    let next = match novatel::read_record(&bytes) {
+        Reading::Read(r) => put_fields(text, next, r),
+        Reading::Refused(refusal) => put_count(text, next, b"refused ", refusal::number(refusal)),
+    };
+    put_correction(text, next, &bytes)
+}
+
+// The corrected ADR of a record that has nothing but a range and an ADR.
+fn put_rolls(text: &mut [u8], at: usize, range: u64, adr: i64) -> usize {
+    let mut bytes = [0u8; 24];
+    let fields = Record {
+        status: 0,
+        doppler: 0,
+        range,
+        adr,
+        range_deviation: 0,
+        adr_deviation: 0,
+        prn: 0,
+        lock: 0,
+        cn0: 20,
+        reserved: 0,
+    };
+    novatel::write_record(&mut bytes, fields);
+    put_correction(text, at, &bytes)
+}
+
+// Rolls that doubles get wrong; halves, and one less in size; the longest range with the least and the largest ADR.
+fn put_all_rolls(text: &mut [u8], at: usize) -> usize {
+    let next = text::put_all(text, at, b"rolls and corrected\n");
+    let next = put_rolls(text, next, 28222569217, -1342202899);
+    let next = put_rolls(text, next, 22179300586, -104046687);
+    let next = put_rolls(text, next, 0, 1073741824);
+    let next = put_rolls(text, next, 0, -1073741824);
+    let next = put_rolls(text, next, 0, 1073741823);
+    let next = put_rolls(text, next, 0, -1073741823);
+    let next = put_rolls(text, next, 68719476735, -2147483648);
+    put_rolls(text, next, 68719476735, 2147483647)
+}
+
 fn main() {
     let mut text = [0u8; 16384];
     let at = put_published(&mut text, 0, b"264-21-figure-1.bin");
@@ -130,5 +224,7 @@ fn main() {
     let at = put_recording(&mut text, at, both);
     let at = text::put_all(&mut text, at, b"S12\n");
     let at = put_calls(&mut text, at);
+    let at = put_record(&mut text, at, b"apn-031-rangecmp.bin");
+    let at = put_all_rolls(&mut text, at);
     io::write_all(libc::STDOUT_FILENO, text::front(&text, at));
 }

@@ -395,11 +395,14 @@ pub fn adr_words(correction: Correction) -> AdrWords
     ensures { λ r. ⌜ r ≡ adrWords correction ⌝ }
 {
     match correction {
-        Correction::Refused(refusal) => AdrWords {
-            refusal: refusal::number(refusal),
-            rolls: 0,
-            adr: 0,
-        },
+        Correction::Refused(refusal) => {
+            let refusal = refusal::number(refusal);
+            AdrWords {
+                refusal,
+                rolls: 0,
+                adr: 0,
+            }
+        }
         Correction::Corrected { rolls, adr } => AdrWords {
             refusal: 0,
             rolls,
