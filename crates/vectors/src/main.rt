@@ -137,19 +137,24 @@ fn put_calls(text: &mut [u8], at: usize) -> usize {
 
 // ---- NovAtel's range record
 
-fn put_fields(text: &mut [u8], at: usize, r: Record) -> usize {
+fn put_measured(text: &mut [u8], at: usize, r: Record) -> usize {
     let next = text::put_all(text, at, b"status ");
     let next = text::put_hex(text, next, r.status, 8);
-    let next = text::put(text, next, b'\n');
-    let next = put_signed(text, next, b"doppler ", r.doppler);
+    let next = put_signed(text, next, b"\ndoppler ", r.doppler);
     let next = put_count(text, next, b"range ", r.range);
-    let next = put_signed(text, next, b"adr ", r.adr);
-    let code = r.range_deviation;
-    let next = put_count(text, next, b"range_deviation ", code);
-    let next = put_count(text, next, b"range_mm ", novatel::deviation_of_range(code));
-    let code = r.adr_deviation;
-    let next = put_count(text, next, b"adr_deviation ", code);
-    let next = put_count(text, next, b"adr_512ths ", novatel::deviation_of_adr(code));
+    put_signed(text, next, b"adr ", r.adr)
+}
+
+fn put_deviations(text: &mut [u8], at: usize, range: u64, adr: u64) -> usize {
+    let next = put_count(text, at, b"range_deviation ", range);
+    let next = put_count(text, next, b"range_mm ", novatel::deviation_of_range(range));
+    let next = put_count(text, next, b"adr_deviation ", adr);
+    put_count(text, next, b"adr_512ths ", novatel::deviation_of_adr(adr))
+}
+
+fn put_fields(text: &mut [u8], at: usize, r: Record) -> usize {
+    let next = put_measured(text, at, r);
+    let next = put_deviations(text, next, r.range_deviation, r.adr_deviation);
     let next = put_count(text, next, b"prn ", r.prn);
     let next = put_count(text, next, b"lock ", r.lock);
     let next = put_count(text, next, b"cn0 ", r.cn0);
@@ -166,16 +171,20 @@ fn put_correction(text: &mut [u8], at: usize, bytes: &[u8]) -> usize {
     }
 }
 
+fn put_reading(text: &mut [u8], at: usize, bytes: &[u8]) -> usize {
+    match novatel::read_record(bytes) {
+        Reading::Read(r) => put_fields(text, at, r),
+        Reading::Refused(refusal) => put_count(text, at, b"refused ", refusal::number(refusal)),
+    }
+}
+
 // The record that APN-031 publishes, and its corrected ADR.
 fn put_record(text: &mut [u8], at: usize, name: &[u8]) -> usize {
     let mut bytes = [0u8; 24];
     load(name, &mut bytes);
     let next = text::put_all(text, at, name);
     let next = text::put(text, next, b'\n');
-    let next = match novatel::read_record(&bytes) {
-        Reading::Read(r) => put_fields(text, next, r),
-        Reading::Refused(refusal) => put_count(text, next, b"refused ", refusal::number(refusal)),
-    };
+    let next = put_reading(text, next, &bytes);
     put_correction(text, next, &bytes)
 }
 
@@ -198,17 +207,20 @@ fn put_rolls(text: &mut [u8], at: usize, range: u64, adr: i64) -> usize {
     put_correction(text, at, &bytes)
 }
 
-// Rolls that doubles get wrong; halves, and one less in size; the longest range with the least and the largest ADR.
-fn put_all_rolls(text: &mut [u8], at: usize) -> usize {
-    let next = text::put_all(text, at, b"rolls and corrected\n");
-    let next = put_rolls(text, next, 28222569217, -1342202899);
+// Rolls that doubles get wrong, and the longest range with the least and the largest ADR.
+fn put_far(text: &mut [u8], at: usize) -> usize {
+    let next = put_rolls(text, at, 28222569217, -1342202899);
     let next = put_rolls(text, next, 22179300586, -104046687);
-    let next = put_rolls(text, next, 0, 1073741824);
-    let next = put_rolls(text, next, 0, -1073741824);
-    let next = put_rolls(text, next, 0, 1073741823);
-    let next = put_rolls(text, next, 0, -1073741823);
     let next = put_rolls(text, next, 68719476735, -2147483648);
     put_rolls(text, next, 68719476735, 2147483647)
+}
+
+// Halves, and one less in size.
+fn put_halves(text: &mut [u8], at: usize) -> usize {
+    let next = put_rolls(text, at, 0, 1073741824);
+    let next = put_rolls(text, next, 0, -1073741824);
+    let next = put_rolls(text, next, 0, 1073741823);
+    put_rolls(text, next, 0, -1073741823)
 }
 
 fn main() {
@@ -225,6 +237,8 @@ fn main() {
     let at = text::put_all(&mut text, at, b"S12\n");
     let at = put_calls(&mut text, at);
     let at = put_record(&mut text, at, b"apn-031-rangecmp.bin");
-    let at = put_all_rolls(&mut text, at);
+    let at = text::put_all(&mut text, at, b"rolls and corrected\n");
+    let at = put_far(&mut text, at);
+    let at = put_halves(&mut text, at);
     io::write_all(libc::STDOUT_FILENO, text::front(&text, at));
 }

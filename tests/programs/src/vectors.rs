@@ -16,16 +16,16 @@ pub(crate) const OLD: &[u8] = b"MACM\x02\x00\x0E\xA0\x0C\x90\x40\x7C\x10\x00\x1C
 
 const RECORD: (&str, &[u8]) = ("apn-031-rangecmp.bin", include_bytes!("../../../crates/vectors/data/apn-031-rangecmp.bin"));
 
-/// Range and ADR: two of which doubles make a roll too many, halves and what is next to them, and the ends.
+/// Range and ADR: two of which doubles make a roll too many, the ends, halves and what is next to them.
 const ROLLED: [(u64, i64); 8] = [
     (28_222_569_217, -1_342_202_899),
     (22_179_300_586, -104_046_687),
+    ((1 << 36) - 1, -1 << 31),
+    ((1 << 36) - 1, (1 << 31) - 1),
     (0, 1 << 30),
     (0, -1 << 30),
     (0, (1 << 30) - 1),
     (0, 1 - (1 << 30)),
-    ((1 << 36) - 1, -1 << 31),
-    ((1 << 36) - 1, (1 << 31) - 1),
 ];
 
 fn given(gap: usize, position: usize, message: &[u8]) -> String {
