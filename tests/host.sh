@@ -11,6 +11,7 @@ fail() {
     echo "host: FAILED: $*"
     exit 1
 }
+. tools/machine.sh
 [ -f "$archive" ] || fail "no $archive: run 'rt staticlib board' first"
 rm -rf "$work" && mkdir -p "$work" || exit 2
 
@@ -18,36 +19,42 @@ rm -rf "$work" && mkdir -p "$work" || exit 2
 build() {
     name=$1 source=tests/host/$2
     shift 2
-    gcc -std=c11 -Wall -Wextra -Werror -O2 "$@" -Iinclude "$source" "$archive" -o "$work/$name" || fail "$name does not compile"
+    $gcc -std=c11 -Wall -Wextra -Werror -O2 "$@" -Iinclude "$source" "$archive" -o "$work/$name" || fail "$name does not compile"
 }
 
 # listing NAME: what the host of this name prints for every recording, from files and from standard input
 listing() {
     for recording in 264-21-figure-1 264-04-table-4 264-04-table-4-by-the-rule; do
         echo "$recording"
-        "$work/$1" "crates/vectors/data/$recording.bin" || return 1
+        $emulator "$work/$1" "crates/vectors/data/$recording.bin" || return 1
     done
     echo "S12, from standard input"
-    printf 'MACMAC2\000\000\000\016\240\014\220\100\174\020\000\036' | "$work/$1" || return 1
+    printf 'MACMAC2\000\000\000\016\240\014\220\100\174\020\000\036' | $emulator "$work/$1" || return 1
     echo "A then B, from standard input"
-    printf 'MAC2\000\000\000\016\240\014\220\100\174\020\000\036MACM\002\000\016\240\014\220\100\174\020\000\034' | "$work/$1" || return 1
+    printf 'MAC2\000\000\000\016\240\014\220\100\174\020\000\036MACM\002\000\016\240\014\220\100\174\020\000\034' | $emulator "$work/$1" || return 1
     echo "nothing, from standard input"
-    "$work/$1" </dev/null
+    $emulator "$work/$1" </dev/null
 }
 
+sanitizers='-g -fsanitize=address,undefined -fno-sanitize-recover=all'
+# The sanitizer looks for leaks as a debugger would, which no emulated process can be held for: there tests/host/leaks.c looks for them.
+if [ -n "$emulator" ]; then
+    sanitizers="$sanitizers -static-libasan -static-libubsan tests/host/leaks.c"
+    export ASAN_OPTIONS=detect_leaks=0
+fi
 build plain recording.c
-build sanitized recording.c -g -fsanitize=address,undefined -fno-sanitize-recover=all
-build reasons reasons.c -g -fsanitize=address,undefined -fno-sanitize-recover=all
+build sanitized recording.c $sanitizers
+build reasons reasons.c $sanitizers
 for name in plain sanitized; do
     listing "$name" >"$work/$name.txt" 2>"$work/$name.err" || fail "$name stops: $(head -n 3 "$work/$name.err")"
     [ ! -s "$work/$name.err" ] || fail "$name complains: $(head -n 3 "$work/$name.err")"
     diff tests/host/expected.txt "$work/$name.txt" || fail "$name prints something else than tests/host/expected.txt"
 done
 for recording in crates/why/stdin samples/sortie.macm /dev/null; do
-    target/bin/why <"$recording" >"$work/why.txt"
-    "$work/reasons" <"$recording" | cmp -s - "$work/why.txt" || fail "the reasons of $recording are others than those of why"
+    $emulator target/bin/why <"$recording" >"$work/why.txt"
+    $emulator "$work/reasons" <"$recording" | cmp -s - "$work/why.txt" || fail "the reasons of $recording are others than those of why"
 done
 echo '#include "cablesound.h"' >"$work/header.cpp"
-g++ -std=c++11 -Wall -Wextra -Wpedantic -Werror -fsyntax-only -Iinclude "$work/header.cpp" || fail "the header is no C++"
-gcc -std=c11 -Wall -Wextra -Wpedantic -Werror -fsyntax-only -Iinclude -x c "$work/header.cpp" || fail "the header is no C11 by itself"
+$gxx -std=c++11 -Wall -Wextra -Wpedantic -Werror -fsyntax-only -Iinclude "$work/header.cpp" || fail "the header is no C++"
+$gcc -std=c11 -Wall -Wextra -Wpedantic -Werror -fsyntax-only -Iinclude -x c "$work/header.cpp" || fail "the header is no C11 by itself"
 echo "host: the C hosts print what they must, plain and with sanitizers; the header is C11 and C++"

@@ -10,6 +10,7 @@ fail() {
     exit 1
 }
 . tests/says
+. tools/machine.sh
 
 sh samples/make.sh check || fail "a stored output is another"
 ./cablesound list samples/sortie.macm | cmp -s - samples/sortie.listing || fail "list prints something else than samples/sortie.listing"
@@ -80,7 +81,7 @@ cmp -s target/said.out target/empty.listing || fail "what was read before an err
 shell_says 1 'error: standard output: No space left on device' './cablesound list samples/sortie.macm >/dev/full'
 shell_says 1 'error: standard output: No space left on device' './cablesound rows <samples/sortie.macm >/dev/full'
 shell_says 1 'error: standard output: Bad file descriptor' './cablesound list samples/sortie.macm >&-'
-shell_says 0 'error: standard input: Bad file descriptor' 'target/bin/listing <&-'
+shell_says 0 'error: standard input: Bad file descriptor' "$emulator target/bin/listing <&-"
 says 2 "$(printf 'cablesound: no such command: list rows\n' && ./cablesound help)" ./cablesound 'list rows'
 shell_says 1 'cablesound: standard output cannot be written' './cablesound help >/dev/full'
 for word in '' -1 +1 1.5 abc 0x10 ' 1'; do

@@ -10,8 +10,20 @@ if [ ! -f "$archive" ]; then
     echo "readers: FAILED: no target/staticlib/libboard.a: run 'rt staticlib board' first"
     exit 1
 fi
+. "$root/tools/machine.sh"
 export CARGO_TARGET_DIR="$root/target/cargo" RUST_BACKTRACE=0
-if ! cargo test --offline --locked --quiet -- --nocapture >"$log" 2>&1 </dev/null; then
+
+# Under an emulator runs what links the archive, and nothing besides.
+run_tests() {
+    if [ -z "$emulator" ]; then
+        cargo test --offline --locked --quiet -- --nocapture
+    else
+        cargo test --offline --locked --quiet --workspace --exclude boundary -- --nocapture &&
+            $cargo test --offline --locked --quiet --package boundary -- --nocapture
+    fi
+}
+
+if ! run_tests >"$log" 2>&1 </dev/null; then
     grep -vE '^\.*$|^running |^test result: ok' "$log" | head -n 40
     echo "readers: FAILED: the whole log is target/readers.log"
     exit 1

@@ -8,6 +8,7 @@ fail() {
     echo "release: FAILED: $*"
     exit 1
 }
+. tools/machine.sh
 ./cablesound build 2>target/build.log || fail "build says: $(cat target/build.log)"
 work=$(mktemp -d) || exit 2
 trap 'rm -rf "$work"' EXIT
@@ -45,8 +46,8 @@ done || exit 1
 # A host in C. pkg-config writes a blank in a folder's name as the shell reads it, so the line goes through eval.
 if command -v pkg-config >/dev/null 2>&1; then
     flags=$(PKG_CONFIG_PATH=$release pkg-config --cflags --libs cablesound) || fail "pkg-config does not find cablesound.pc"
-    eval "cc '$release/recording.c' $flags -o host" || fail "a host does not compile by pkg-config"
-    printf 'MACMAC2\000\000\000\016\240\014\220\100\174\020\000\036' | ./host >host.txt || fail "the host stops"
+    eval "$cc '$release/recording.c' $flags -o host" || fail "a host does not compile by pkg-config"
+    printf 'MACMAC2\000\000\000\016\240\014\220\100\174\020\000\036' | $emulator ./host >host.txt || fail "the host stops"
     sed -n '/^S12/,/^end/p' "$host" | sed 1d | cmp -s - host.txt || fail "the host prints something else: $(cat host.txt)"
 fi
 

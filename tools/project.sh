@@ -1,4 +1,5 @@
 # What works in the project alone: proving and building, the gate, the release, the fuzz and the bench. `cablesound` takes this file in.
+. "$root/tools/machine.sh"
 
 # CRATE: what is made of it. The exports for C are in board.
 made_of() {
@@ -115,6 +116,37 @@ need_rt() {
     command -v rt >/dev/null 2>&1 || fail "no rt on this machine: the Rattle toolchain is needed"
 }
 
+# Whether x86-64 code can be compiled and run here. Before version 10 the emulator either stops where a program asks for its own memory map, as those in
+# Rust and the address sanitizer do, or has a table of all pages that the sanitizer sets aside, which is more than the machine's memory.
+emulates() {
+    command -v "$gcc" && command -v "$gxx" && [ -d /usr/lib/rustlib/x86_64-unknown-linux-gnu ] &&
+        [ "$(qemu-x86_64 --version | sed -n 's/^qemu-x86_64 version \([0-9]*\).*/\1/p')" -ge 10 ]
+} >/dev/null 2>&1
+
+# Debian 12 has that emulator among its backports, at the mirror that the machine goes by. Nothing else is taken from there, and the machine's list of
+# sources stays as it is.
+install_packages() {
+    . /etc/os-release
+    backports=$VERSION_CODENAME-backports
+    apt-get update &&
+        mirror=$(apt-get indextargets --format '$(REPO_URI)' 'Created-By: Packages' "Release: $VERSION_CODENAME" | head -n 1) &&
+        cp -R /etc/apt/sources.list.d "$work/sources" &&
+        echo "deb [signed-by=/usr/share/keyrings/debian-archive-keyring.gpg] $mirror $backports main" >"$work/sources/backports.list" &&
+        dpkg --add-architecture amd64 &&
+        apt-get -o Dir::Etc::sourceparts="$work/sources" update &&
+        DEBIAN_FRONTEND=noninteractive apt-get -o Dir::Etc::sourceparts="$work/sources" install -y --no-install-recommends $packages "qemu-user/$backports"
+}
+
+# On another machine than x86-64, what tools/machine.sh names.
+need_emulation() {
+    [ -n "$emulator" ] && ! emulates || return 0
+    packages='gcc-x86-64-linux-gnu g++-x86-64-linux-gnu rustc-web libstd-rust-web-dev:amd64'
+    needed="Debian's $packages, and qemu-user from version 10 on"
+    [ "$(id -u)" -eq 0 ] && command -v apt-get >/dev/null || fail "x86-64 code is run here by an emulator: install $needed"
+    say "x86-64 code is run here by an emulator: installs $needed"
+    mkdir -p target && await install_packages >target/install.log 2>&1 && emulates || fail "not installed: $needed: see target/install.log"
+}
+
 # What support and a C host need where there is no toolchain, in one folder that can be copied anywhere.
 build() {
     provide $programs board
@@ -133,24 +165,36 @@ fuzz() {
     case ${1:-} in
     '' | *[!0-9]*) fail "fuzz needs a number of seconds" ;;
     esac
+    need_emulation
     provide board
-    cd tests && await setsid cargo run --offline --locked --quiet --bin fuzz -- "$@"
+    cd tests && await setsid $cargo run --offline --locked --quiet --bin fuzz -- "$@"
 }
 
 # NAME FILE...: a program of bench/.
 compile() {
     name=$1
     shift
-    gcc -std=c11 -O2 -Wall -Wextra -Werror -Ibuild "$@" -o "target/bench/$name" || fail "bench: $name does not compile"
+    $gcc -std=c11 -O2 -Wall -Wextra -Werror -Ibuild "$@" -o "target/bench/$name" || fail "bench: $name does not compile"
 }
+
+# PROGRAM SCRIPT: leaves a script that runs the program. A process under the emulator can start one of this machine's own alone.
+emulated() { printf '#!/bin/sh\nexec %s "%s"\n' "$emulator" "$PWD/$1" >"$2" && chmod +x "$2" || exit 2; }
 
 bench() {
     say "builds the library, its listing program and the reader in C, then measures for some 30 seconds"
+    need_emulation
     build
     mkdir -p target/bench || exit 2
     compile listing bench/listing.c bench/reader.c
     compile bench bench/bench.c bench/process.c bench/reader.c bench/record.c bench/records.c bench/streams.c build/libcablesound.a
-    await setsid target/bench/bench target/bench target/bin/listing
+    listing=target/bin/listing
+    if [ -n "$emulator" ]; then
+        say "an emulator runs both: the times, and a target that is missed, say nothing of x86-64"
+        emulated "$listing" target/bench/library
+        mv target/bench/listing target/bench/careful && emulated target/bench/careful target/bench/listing
+        listing=target/bench/library
+    fi
+    await setsid $emulator target/bench/bench target/bench "$listing"
 }
 
 # Keeps what rt prints, and its tally back.
@@ -159,6 +203,7 @@ hold_tally() { tee "$work/log" | grep --line-buffered -Ev '^[0-9]+ passed, [0-9]
 # The gate. rt's own tally is held back until everything else has passed, so that it is the very last line.
 gate() {
     need_rt
+    need_emulation
     rt fmt --check || fail "a file is not in the layout: run 'rt fmt'"
     through hold_tally rt ci || fail "rt ci failed: $(tail -n 1 "$work/log")"
     archive

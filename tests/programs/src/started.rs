@@ -4,10 +4,20 @@ use std::io::{self, Write};
 use std::path::Path;
 use std::process::{Child, Command, Stdio};
 
+/// The program by itself or, where this machine is another than its own, by an emulator.
+fn command(program: &Path) -> Command {
+    if cfg!(target_arch = "x86_64") {
+        return Command::new(program);
+    }
+    let mut emulator = Command::new("qemu-x86_64");
+    emulator.arg(program);
+    emulator
+}
+
 /// A program of target/bin, with pipes for what it reads and prints.
 pub fn started(program: &str) -> Child {
     let path = Path::new(env!("CARGO_MANIFEST_DIR")).join("../../target/bin").join(program);
-    let child = Command::new(&path).stdin(Stdio::piped()).stdout(Stdio::piped()).spawn();
+    let child = command(&path).stdin(Stdio::piped()).stdout(Stdio::piped()).spawn();
     child.unwrap_or_else(|error| panic!("{}: {error}: run `rt check {program}` first", path.display()))
 }
 
