@@ -1,7 +1,7 @@
 #!/bin/sh
 # The C host of tests/host/ reads the published messages, S12, and A then B through the C boundary, compiled plainly and with sanitizers, and prints
-# what tests/host/expected.txt says; another one prints the reasons that the program `why` prints; the header is taken by C and by C++. Needs
-# target/staticlib/libboard.a, which `rt staticlib board` leaves.
+# what tests/host/expected.txt says; another one prints the reasons that the program `why` prints, a third one the published range record; the header is
+# taken by C and by C++. Needs target/staticlib/libboard.a, which `rt staticlib board` leaves.
 set -u
 root=$(cd "$(dirname "$0")/.." && pwd -P) || exit 2
 cd "$root" || exit 2
@@ -45,6 +45,7 @@ fi
 build plain recording.c
 build sanitized recording.c $sanitizers
 build reasons reasons.c $sanitizers
+build record record.c $sanitizers
 for name in plain sanitized; do
     listing "$name" >"$work/$name.txt" 2>"$work/$name.err" || fail "$name stops: $(head -n 3 "$work/$name.err")"
     [ ! -s "$work/$name.err" ] || fail "$name complains: $(head -n 3 "$work/$name.err")"
@@ -54,6 +55,10 @@ for recording in crates/why/stdin samples/sortie.macm /dev/null; do
     $emulator target/bin/why <"$recording" >"$work/why.txt"
     $emulator "$work/reasons" <"$recording" | cmp -s - "$work/why.txt" || fail "the reasons of $recording are others than those of why"
 done
+published=crates/vectors/data/apn-031-rangecmp.bin
+$emulator "$work/record" <"$published" >"$work/record.txt" || fail "the published record is not written as it was read"
+sed -n '/^apn-031/,/^corrected/p' crates/vectors/stdout | sed 1d | cmp -s - "$work/record.txt" || fail "the published record has other fields than vectors prints"
+[ "$(head -c 23 "$published" | $emulator "$work/record")" = 'refused 13' ] || fail "a record cut short is not refused with 13"
 echo '#include "cablesound.h"' >"$work/header.cpp"
 $gxx -std=c++11 -Wall -Wextra -Wpedantic -Werror -fsyntax-only -Iinclude "$work/header.cpp" || fail "the header is no C++"
 $gcc -std=c11 -Wall -Wextra -Wpedantic -Werror -fsyntax-only -Iinclude -x c "$work/header.cpp" || fail "the header is no C11 by itself"
