@@ -14,9 +14,9 @@ use Rattle.octets.specs.Signed.{signedOf, rawOf, half}
 use Rattle.octets.proofs.Signed.{raw-signed, signed-raw, signed-fits, raw-fits}
 use Rattle.bits.specs.Little.{littleBytes}
 use Rattle.bits.specs.Fields.{fieldOf}
-use Rattle.bits.specs.Joined.{_bits_, widths, total, joined, parts}
+use Rattle.bits.specs.Joined.{_bits_, joined}
 use Rattle.bits.proofs.Fields.{field-fits}
-use Rattle.bits.proofs.Joined.{parts-bytes, field-joined}
+use Rattle.bits.proofs.Joined.{widths, total, parts, parts-bytes, field-joined}
 use Rattle.novatel.specs.declared.Record.{Record}
 use Rattle.novatel.specs.Record.{recordOf, recordBytes, fieldsOf, tests, fits}
 use Rattle.novatel.proofs.WriteSteps.{each}
