@@ -17,7 +17,7 @@ use Rattle.bits.proofs.Bytes.{length-littleBytes}
 use Rattle.refusal.specs.declared.Refusal.the-variants.{OtherLength, OtherSignal}
 use Rattle.refusal.specs.declared.Written.the-variants.{Length}
 use Rattle.novatel.specs.declared.Record.{Record}
-use Rattle.novatel.specs.declared.Reading.the-variants.{Refused as NotRead, Read}
+use Rattle.novatel.specs.declared.Reading.the-variants.{Read}
 use Rattle.novatel.specs.declared.Correction.the-variants.{Refused as NotCorrected, Corrected}
 use Rattle.novatel.specs.Record.{recordOf, recordBytes, fieldsOf, fits}
 use Rattle.novatel.specs.Entries.{readingOf, writingOf, writingBytes, saysGps, correctionIn, correctionOf}
