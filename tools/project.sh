@@ -116,8 +116,8 @@ need_rt() {
     command -v rt >/dev/null 2>&1 || fail "no rt on this machine: the Rattle toolchain is needed"
 }
 
-# Whether x86-64 code can be compiled and run here. Before version 10 the emulator either stops where a program asks for its own memory map, as those in
-# Rust and the address sanitizer do, or has a table of all pages that the sanitizer sets aside, which is more than the machine's memory.
+# Whether x86-64 code can be compiled and run here. Of the emulators before version 10 that were tried, one stops where a program asks for its own memory
+# map, as the address sanitizer does, and one has a table of all pages that the sanitizer sets aside, which is more than the machine's memory.
 emulates() {
     command -v "$gcc" && command -v "$gxx" && [ -d /usr/lib/rustlib/x86_64-unknown-linux-gnu ] &&
         [ "$(qemu-x86_64 --version | sed -n 's/^qemu-x86_64 version \([0-9]*\).*/\1/p')" -ge 10 ]
