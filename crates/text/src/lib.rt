@@ -6,9 +6,9 @@ ghost use Prim.Native.Nat.{_<_, _≤_};
 ghost use denote.Ref.{ptr};
 ghost use lib.ListN.{length, take};
 ghost use Rattle.text.specs.Columns.{numberText, countText};
-ghost use Rattle.text.specs.Digits.{digitOf, digits, needed, decimal, fixed, metres, hertz};
+ghost use Rattle.text.specs.Digits.{digitOf, digits, needed, decimal, pointed, metres, hertz};
 ghost use Rattle.text.specs.Double.{exponentOf, thousandths, cycles};
-ghost use Rattle.text.specs.Put.{written, Puts};
+ghost use Rattle.text.specs.Put.{Puts};
 
 // ---- bytes
 
@@ -23,15 +23,21 @@ pub fn put(out: &mut [u8], at: usize, byte: u8) -> usize
     at
 }
 
-// The bytes of a text.
+// The bytes of a text. Where all of it has room, its length is known before the copy: a word of the code is then a store or two.
 pub fn put_all(out: &mut [u8], at: usize, text: &[u8]) -> usize
     ensures { λ r. ⌜ Puts (now (out .entry)) at (now (text .entry)) r (now (out .exit)) ⌝ }
 {
-    let mut next = at;
-    for i in 0..text.len() {
-        next = put(out, next, text[i]);
+    let room = out.len();
+    if at < room {
+        if text.len() <= room - at {
+            let end = at + text.len();
+            octets::copy(text, &mut out[at..end]);
+            return end;
+        }
+        octets::copy(text, &mut out[at..]);
+        return room;
     }
-    next
+    at
 }
 
 // The first n bytes, or all where there are fewer: what was put, for whoever writes it out.
@@ -53,39 +59,44 @@ fn digit(d: u64) -> u8
     if d < 10 { 48 + d as u8 } else { 55 + d as u8 }
 }
 
-// The last `width` digits of n, two at a time from the last ones down: the next two wait for one division.
-fn spell(out: &mut [u8], at: usize, n: u64, base: u64, width: usize)
-    requires { ⌜ (0 < base) × (base ≤ 16) × (at ≤ length (now out)) × (width ≤ 255) ⌝ }
-    ensures { λ _. ⌜ now (out .exit) ≡ written (now (out .entry)) at (digits base width n) ⌝ }
+// The last digits of n, as many as `out` has places, two at a time from the last ones down: the next two wait for one division.
+fn spell(out: &mut [u8], n: u64, base: u64)
+    requires { ⌜ (0 < base) × (base ≤ 16) ⌝ }
+    ensures { λ _. ⌜ now (out .exit) ≡ digits base (length (now (out .entry))) n ⌝ }
 {
     let square = base * base;
     let mut rest = n;
-    let mut i = width;
+    let mut i = out.len();
     while 1 < i {
         i -= 2;
         let pair = rest % square;
-        put(out, at + i + 1, digit(pair % base));
-        put(out, at + i, digit(pair / base));
+        out[i + 1] = digit(pair % base);
+        out[i] = digit(pair / base);
         rest = rest / square;
     }
     if i == 1 {
-        put(out, at, digit(rest % base));
+        out[0] = digit(rest % base);
     }
 }
 
+// The last `width` digits of n. Of these the last ones go, where there is no room for all.
 fn put_digits(out: &mut [u8], at: usize, n: u64, base: u64, width: usize) -> usize
-    requires { ⌜ (0 < base) × (base ≤ 16) × (width ≤ 255) ⌝ }
+    requires { ⌜ (0 < base) × (base ≤ 16) ⌝ }
     ensures { λ r. ⌜ Puts (now (out .entry)) at (digits base width n) r (now (out .exit)) ⌝ }
 {
     let room = out.len();
     if room <= at {
         return at;
     }
-    spell(out, at, n, base, width);
-    if room - at < width {
-        return room;
+    let mut rest = n;
+    let mut fitting = width;
+    while room - at < fitting {
+        rest = rest / base;
+        fitting -= 1;
     }
-    at + width
+    let end = at + fitting;
+    spell(&mut out[at..end], rest, base);
+    end
 }
 
 // How many decimal digits n needs: four at a time, then the last ones.
@@ -140,22 +151,30 @@ pub fn put_count(out: &mut [u8], at: usize, word: &[u8], n: u64, behind: u8) -> 
 
 // ---- decimals
 
-// A sign, then n / unit with so many digits behind the point.
-fn put_fixed(out: &mut [u8], at: usize, negative: bool, n: u64, unit: u64, places: usize) -> usize
-    requires { ⌜ (0 < unit) × (places ≤ 255) ⌝ }
-    ensures { λ r. ⌜ Puts (now (out .entry)) at (fixed negative unit places n) r (now (out .exit)) ⌝ }
+// A sign, then a whole number and, behind the point, so many digits of another one. The callers divide, each by its own constant, which the machine
+// does by multiplying.
+fn put_pointed(
+    out: &mut [u8],
+    at: usize,
+    negative: bool,
+    whole: u64,
+    places: usize,
+    part: u64,
+) -> usize
+    ensures { λ r. ⌜ Puts (now (out .entry)) at (pointed negative whole places part) r (now (out .exit)) ⌝ }
 {
     let sign = if negative { put(out, at, b'-') } else { at };
-    let whole = put_decimal(out, sign, n / unit);
-    let point = put(out, whole, b'.');
-    put_digits(out, point, n % unit, 10, places)
+    let next = put_decimal(out, sign, whole);
+    let point = put(out, next, b'.');
+    put_digits(out, point, part, 10, places)
 }
 
 // Whole micrometres as metres, with six decimals.
 pub fn put_metres(out: &mut [u8], at: usize, micrometres: u64) -> usize
     ensures { λ r. ⌜ Puts (now (out .entry)) at (metres micrometres) r (now (out .exit)) ⌝ }
 {
-    put_fixed(out, at, false, micrometres, 1000000, 6)
+    let whole = micrometres / 1000000;
+    put_pointed(out, at, false, whole, 6, micrometres % 1000000)
 }
 
 // A rate in units of 1/10000 Hz as hertz, with four decimals.
@@ -163,9 +182,11 @@ pub fn put_hertz(out: &mut [u8], at: usize, rate: i32) -> usize
     ensures { λ r. ⌜ Puts (now (out .entry)) at (hertz rate) r (now (out .exit)) ⌝ }
 {
     if rate >= 0 {
-        return put_fixed(out, at, false, rate as u32 as u64, 10000, 4);
+        let size = rate as u32 as u64;
+        return put_pointed(out, at, false, size / 10000, 4, size % 10000);
     }
-    put_fixed(out, at, true, (-1 - rate) as u32 as u64 + 1, 10000, 4)
+    let size = (-1 - rate) as u32 as u64 + 1;
+    put_pointed(out, at, true, size / 10000, 4, size % 10000)
 }
 
 // The size of a double below 2^53 in thousandths, rounded once, halves up. 1000 times its digits fit 64 bits, and a shift brings them to their place.
@@ -194,5 +215,6 @@ pub fn put_cycles(out: &mut [u8], at: usize, bits: u64) -> usize
         return put_all(out, at, b"wide");
     }
     let size = round_thousandths(bits, exponent);
-    put_fixed(out, at, bits >= 0x8000_0000_0000_0000, size, 1000, 3)
+    let negative = bits >= 0x8000_0000_0000_0000;
+    put_pointed(out, at, negative, size / 1000, 3, size % 1000)
 }
