@@ -82,7 +82,7 @@ typedef struct { uint64_t refusal, kind, position, length, gap; } cs_found;
 /* What cs_why answers: the kind of the reason and its value. */
 typedef struct { uint64_t refusal, kind, value; } cs_reason;
 
-/* A header. version is the old form's alone, signal (TYPE) and tfom the new form's; cs_read answers 0 for the other form's. time is in GNSS
+/* A header. version is the old form's alone, signal (TYPE) and tfom the new form's; cs_read_header answers 0 for the other form's. time is in GNSS
  * milliseconds; offset is OFFSET's 32 bits, a binary32 in metres. */
 typedef struct { uint64_t form, version, signal, tfom, time, offset; } cs_header;
 
@@ -93,12 +93,11 @@ typedef struct {
     uint64_t lock;
 } cs_observation;
 
-/* What cs_read answers. present is 1 where there is an observation, 0 at index 0 of a message without any. */
-typedef struct {
-    uint64_t refusal, count, present;
-    cs_header header;
-    cs_observation observation;
-} cs_reading;
+/* What cs_read_header answers: how many observations the message has, and its header. */
+typedef struct { uint64_t refusal, count; cs_header header; } cs_head;
+
+/* What cs_read_observation answers. */
+typedef struct { uint64_t refusal; cs_observation observation; } cs_observed;
 
 /* What a writing call answers: the length of the message or the record at the front of the output. */
 typedef struct { uint64_t refusal, length; } cs_written;
@@ -126,8 +125,11 @@ typedef struct { uint64_t refusal; int64_t rolls, adr; } cs_adr;
 /* Whether these bytes are exactly one message: 0, or 1 to 4. */
 uint64_t cs_check(const uint8_t *message, size_t length);
 
-/* The header, the count and the observation at this index. Refuses with 1 to 4, then 5; index 0 of a message without observations is not refused. */
-cs_reading cs_read(const uint8_t *message, size_t length, size_t index);
+/* The header and the count of observations of exactly one message. Refuses with 1 to 4. */
+cs_head cs_read_header(const uint8_t *message, size_t length);
+
+/* The observation at this index of exactly one message. Refuses with 1 to 4, then 5: of a message without observations every index. */
+cs_observed cs_read_observation(const uint8_t *message, size_t length, size_t index);
 
 /* Writes a message with this header and count zero observations at the front of the output; every byte behind it stays. Refuses with 6. Of each
  * number in the header the low bits go into its field; a form other than CS_OLD is the new form. */

@@ -31,25 +31,25 @@ static void print_observation(uint64_t form, const cs_observation *observation) 
     }
 }
 
-/* Prints the message at the front of the output. Answers 0, or the refusal that cs_read gave. */
+/* Prints the message at the front of the output: its header, read once, says how many observations there are to ask for. Answers 0, or the refusal of
+ * the call that refused. */
 static uint64_t print_message(const cs_answer *answer) {
     size_t length = (size_t)answer->length;
-    cs_reading reading = cs_read(output, length, 0);
-    if (reading.refusal != 0) {
-        return reading.refusal;
+    cs_head head = cs_read_header(output, length);
+    if (head.refusal != 0) {
+        return head.refusal;
     }
     printf("at %" PRIu64 " bytes %" PRIu64 " gap %" PRIu64 " form %s count %" PRIu64 " time %" PRIu64 "\n", behind + answer->gap, answer->length,
-           answer->gap, reading.header.form == CS_OLD ? "old" : "new", reading.count, reading.header.time);
+           answer->gap, head.header.form == CS_OLD ? "old" : "new", head.count, head.header.time);
     behind += answer->gap + answer->length;
 
-    /* Index 0 is read already; it has no observation where the count is 0. */
-    uint64_t count = reading.count;
-    for (size_t index = 0; index < count; index++) {
-        reading = cs_read(output, length, index);
-        if (reading.refusal != 0) {
-            return reading.refusal;
+    /* An index from the count on would be refused with CS_NO_OBSERVATION. */
+    for (size_t index = 0; index < head.count; index++) {
+        cs_observed observed = cs_read_observation(output, length, index);
+        if (observed.refusal != 0) {
+            return observed.refusal;
         }
-        print_observation(reading.header.form, &reading.observation);
+        print_observation(head.header.form, &observed.observation);
     }
     return 0;
 }

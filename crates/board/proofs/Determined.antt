@@ -14,8 +14,11 @@ use Rattle.board.proofs as board
 pub cs-check-determined : Determined board.cs_check.ended board.cs_check.Reads.Learnt
 cs-check-determined κs a z z′ w w′ p q = search both
 
-pub cs-read-determined : Determined board.cs_read.ended board.cs_read.Reads.Learnt
-cs-read-determined κs a z z′ w w′ p q = search both
+pub cs-read-header-determined : Determined board.cs_read_header.ended board.cs_read_header.Reads.Learnt
+cs-read-header-determined κs a z z′ w w′ p q = search both
+
+pub cs-read-observation-determined : Determined board.cs_read_observation.ended board.cs_read_observation.Reads.Learnt
+cs-read-observation-determined κs a z z′ w w′ p q = search both
 
 pub cs-start-determined : Determined board.cs_start.ended board.cs_start.Reads.Learnt
 cs-start-determined κs a z z′ w w′ p q = search both

@@ -9,7 +9,7 @@ use words::WrittenWords;
 ghost use mathlib.Core.Path.{_≡_};
 ghost use lib.ListN.{length};
 ghost use Rattle.macm.specs.Check.{verdict};
-ghost use Rattle.macm.specs.Read.{readOf};
+ghost use Rattle.macm.specs.Read.{headOf, observedOf};
 ghost use Rattle.macm.specs.Answers.{checkNumber};
 ghost use Rattle.compose.specs.Start.{startOf, startBytes};
 ghost use Rattle.compose.specs.Set.{setOf, setBytes};
@@ -24,7 +24,7 @@ ghost use Rattle.track.specs.Shown.{phaseOf};
 ghost use Rattle.units.specs.Units.{lockOf, lockMillis, millisIn};
 ghost use Rattle.novatel.specs.Deviations.{rangeDeviation, adrDeviation};
 ghost use Rattle.novatel.specs.Entries.{readingOf, writingOf, writingBytes, correctionOf};
-ghost use Rattle.words.specs.Words.{formIn, headerIn, observationIn, recordIn, readingWords, writtenWords, foundWords, reasonWords, phaseWords, recordWords, adrWords};
+ghost use Rattle.words.specs.Words.{formIn, headerIn, observationIn, recordIn, headWords, observedWords, writtenWords, foundWords, reasonWords, phaseWords, recordWords, adrWords};
 ghost use Rattle.board.specs.Lent.{Finds};
 
 // ---- one message
@@ -40,10 +40,17 @@ pub extern "C" fn cs_check(message: &[u8]) -> u64
 }
 
 #[no_mangle]
-pub extern "C" fn cs_read(message: &[u8], index: usize) -> words::ReadingWords
-    ensures { λ r. ⌜ r ≡ readingWords (readOf (now (message .entry)) index) ⌝ }
+pub extern "C" fn cs_read_header(message: &[u8]) -> words::HeadWords
+    ensures { λ r. ⌜ r ≡ headWords (headOf (now (message .entry))) ⌝ }
 {
-    words::reading_words(macm::read(message, index))
+    words::head_words(macm::read_header(message))
+}
+
+#[no_mangle]
+pub extern "C" fn cs_read_observation(message: &[u8], index: usize) -> words::ObservedWords
+    ensures { λ r. ⌜ r ≡ observedWords (observedOf (now (message .entry)) index) ⌝ }
+{
+    words::observed_words(macm::read_observation(message, index))
 }
 
 #[no_mangle]

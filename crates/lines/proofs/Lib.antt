@@ -1,3 +1,3 @@
-pub mod Counted
+pub mod Width
 pub mod Worked
 pub mod Determined

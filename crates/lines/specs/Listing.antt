@@ -4,12 +4,12 @@ use mathlib.Core.List.{List, [], _++_}
 use lib.ListN.{length}
 use Rattle.text.specs.Word.{word}
 use Rattle.text.specs.Columns.{space, newline, numberText, countText}
-use Rattle.macm.specs.Read.{readOf}
+use Rattle.macm.specs.Read.{claimedHead}
 use Rattle.macm.specs.declared.Form.{Form}
 use Rattle.macm.specs.declared.Form.the-variants.{New, Old}
 use Rattle.macm.specs.declared.Header.{Header}
-use Rattle.macm.specs.declared.Reading.{Reading}
-use Rattle.macm.specs.declared.Reading.the-variants.{Refused, HeaderOnly, Observed}
+use Rattle.macm.specs.declared.Head.{Head}
+use Rattle.macm.specs.declared.Head.the-variants.{Refused, Read}
 
 abbrev pub formText : Form → List ℕ
 formText (New signal tfom) = word "v2 "
@@ -19,14 +19,13 @@ formText (Old version) = word "v1 "
 abbrev pub messageText : ℕ → ℕ → Header → ℕ → List ℕ
 messageText position bytes h count = numberText position space ++ (numberText bytes space ++ (formText (h .form) ++ (numberText count space ++ numberText (h .time) newline)))
 
-abbrev pub readText : ℕ → ℕ → Reading → List ℕ
-readText position bytes (Refused r) = []
-readText position bytes (HeaderOnly h) = messageText position bytes h 0
-readText position bytes (Observed h count o) = messageText position bytes h count
+abbrev pub headLine : ℕ → ℕ → Head → List ℕ
+headLine position bytes (Refused r) = []
+headLine position bytes (Read h count) = messageText position bytes h count
 
--- the line of a message m
+-- the line of a message m, as its bytes claim it
 abbrev pub lineText : ℕ → List ℕ → List ℕ
-lineText position m = readText position (length m) (readOf m 0)
+lineText position m = headLine position (length m) (claimedHead m)
 
 -- all bytes, all messages, all gap bytes
 abbrev pub endText : ℕ → ℕ → ℕ → List ℕ

@@ -6,14 +6,15 @@ use Rattle.text.specs.Columns.{space, newline, numberText, countText}
 use Rattle.text.specs.Digits.{digits, metres, hertz}
 use Rattle.text.specs.Double.{nonfinite, cycles}
 use Rattle.units.specs.Units.{lockMillis, millisIn}
-use Rattle.macm.specs.Read.{readOf}
-use Rattle.macm.specs.Answers.{countIn}
+use Rattle.macm.specs.Read.{claimedHead, observedAs}
 use Rattle.macm.specs.declared.Form.{Form}
 use Rattle.macm.specs.declared.Form.the-variants.{New, Old}
 use Rattle.macm.specs.declared.Header.{Header}
 use Rattle.macm.specs.declared.Observation.{Observation}
-use Rattle.macm.specs.declared.Reading.{Reading}
-use Rattle.macm.specs.declared.Reading.the-variants.{Refused, HeaderOnly, Observed}
+use Rattle.macm.specs.declared.Head.{Head}
+use Rattle.macm.specs.declared.Head.the-variants.{Refused, Read as Headed}
+use Rattle.macm.specs.declared.Observed.{Observed}
+use Rattle.macm.specs.declared.Observed.the-variants.{Refused as NotObserved, Read}
 use Rattle.track.specs.declared.Phase.{Phase}
 use Rattle.track.specs.declared.Phase.the-variants.{Withheld, NotFinite, Cycles}
 use Rattle.track.specs.declared.Polarity.{Polarity}
@@ -60,19 +61,24 @@ conditionText (MakerDefined bits) = word "- "
 abbrev pub shownText : Form → Observation → List ℕ
 shownText f o = phaseText (phaseOf f o) (o .phase) ++ ((space ∷ []) ++ (digits 16 16 (o .phase) ++ ((space ∷ []) ++ conditionText (conditionOf f o))))
 
--- all of these, rate in hertz, time since lock in milliseconds
-abbrev pub observationText : ℕ → Header → Observation → List ℕ
-observationText position h o = headText position h ++ (rangeText o ++ (shownText (h .form) o ++ (hertz (o .rate) ++ ((space ∷ []) ++ numberText (millisIn (lockMillis (o .lock))) newline))))
+-- the columns of an observation: these, rate in hertz, time since lock in milliseconds
+abbrev pub observationText : Form → Observation → List ℕ
+observationText f o = rangeText o ++ (shownText f o ++ (hertz (o .rate) ++ ((space ∷ []) ++ numberText (millisIn (lockMillis (o .lock))) newline)))
 
-abbrev pub rowText : ℕ → Reading → List ℕ
-rowText position (Refused r) = []
-rowText position (HeaderOnly h) = []
-rowText position (Observed h count o) = observationText position h o
+-- behind the columns of its message
+abbrev pub rowText : List ℕ → Form → Observed → List ℕ
+rowText head f (NotObserved r) = []
+rowText head f (Read o) = head ++ observationText f o
 
--- the rows of a message m: of its first k observations, and of all
-unfoldable pub rowsUpTo : ℕ → ℕ → List ℕ → List ℕ
-rowsUpTo zero position m = []
-rowsUpTo (suc k) position m = rowsUpTo k position m ++ rowText position (readOf m k)
+-- the rows of the first k of the n observations that a message m of a form has
+unfoldable pub rowsUpTo : ℕ → List ℕ → Form → ℕ → List ℕ → List ℕ
+rowsUpTo zero head f n m = []
+rowsUpTo (suc k) head f n m = rowsUpTo k head f n m ++ rowText head f (observedAs f n m k)
 
+abbrev pub headRows : ℕ → Head → List ℕ → List ℕ
+headRows position (Refused r) m = []
+headRows position (Headed h n) m = rowsUpTo n (headText position h) (h .form) n m
+
+-- the rows of a message m, as its bytes claim it
 abbrev pub rowsText : ℕ → List ℕ → List ℕ
-rowsText position m = rowsUpTo (countIn (readOf m 0)) position m
+rowsText position m = headRows position (claimedHead m) m

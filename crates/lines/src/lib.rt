@@ -1,15 +1,17 @@
 // The lines that the programs print, put into a lent buffer as `text` puts numbers: of a message in the listing, of an observation for the people who
 // compute the track, and the listing's last.
 use macm::Form;
+use macm::Head;
 use macm::Header;
 use macm::Observation;
-use macm::Reading;
+use macm::Observed;
 use track::Condition;
 use track::Phase;
 use track::Polarity;
+ghost use mathlib.Core.List.{_++_};
 ghost use Rattle.text.specs.Put.{Puts};
 ghost use Rattle.lines.specs.Listing.{formText, messageText, lineText, endText};
-ghost use Rattle.lines.specs.Rows.{headText, rangeText, phaseText, conditionText, shownText, observationText, rowsText};
+ghost use Rattle.lines.specs.Rows.{headText, rangeText, phaseText, conditionText, shownText, observationText, rowText, rowsUpTo, rowsText};
 
 // ---- the listing
 
@@ -34,15 +36,14 @@ fn put_read(out: &mut [u8], at: usize, position: u64, bytes: u64, head: Header, 
     text::put_number(out, next, head.time as u64, b'\n')
 }
 
-// The line of a message at a position: none where reading it is refused.
+// The line of a message at a position, as its bytes claim it: none where they claim no message. The checksum was run in the division.
 pub fn put_line(out: &mut [u8], at: usize, position: u64, message: &[u8]) -> usize
     ensures { λ r. ⌜ Puts (now (out .entry)) at (lineText position (now (message .entry))) r (now (out .exit)) ⌝ }
 {
     let bytes = message.len() as u64;
-    match macm::read(message, 0) {
-        Reading::Refused(_) => at,
-        Reading::HeaderOnly(header) => put_read(out, at, position, bytes, header, 0),
-        Reading::Observed(header, count, _) => put_read(out, at, position, bytes, header, count),
+    match macm::claimed_header(message) {
+        Head::Refused(_) => at,
+        Head::Read(header, count) => put_read(out, at, position, bytes, header, count),
     }
 }
 
@@ -121,30 +122,57 @@ fn put_shown(out: &mut [u8], at: usize, form: Form, observation: Observation) ->
     put_polarity(out, next, track::condition_of(form, observation))
 }
 
-// The rate in hertz and the time since lock in milliseconds end the row.
-fn put_row(out: &mut [u8], at: usize, position: u64, head: Header, observed: Observation) -> usize
-    ensures { λ r. ⌜ Puts (now (out .entry)) at (observationText position head observed) r (now (out .exit)) ⌝ }
+// What stands at the front of all rows of a message, then the observation's own columns: the rate in hertz and the time since lock in milliseconds end
+// the row.
+fn put_row(out: &mut [u8], at: usize, head: &[u8], form: Form, observation: Observation) -> usize
+    ensures { λ r. ⌜ Puts (now (out .entry)) at (now (head .entry) ++ observationText form observation) r (now (out .exit)) ⌝ }
 {
-    let form = head.form;
-    let lock = observed.lock;
-    let next = put_head(out, at, position, head);
-    let next = put_range(out, next, observed);
-    let next = put_shown(out, next, form, observed);
-    let next = text::put_hertz(out, next, observed.rate);
+    let lock = observation.lock;
+    let next = text::put_all(out, at, head);
+    let next = put_range(out, next, observation);
+    let next = put_shown(out, next, form, observation);
+    let next = text::put_hertz(out, next, observation.rate);
     let next = text::put(out, next, b' ');
     text::put_number(out, next, units::since_lock(lock).number(), b'\n')
 }
 
-// The rows of all observations of the message at a position: a message has 255 at most.
+// The row of what was read: none of a refusal.
+fn put_observed(out: &mut [u8], at: usize, head: &[u8], form: Form, observed: Observed) -> usize
+    ensures { λ r. ⌜ Puts (now (out .entry)) at (rowText (now (head .entry)) form observed) r (now (out .exit)) ⌝ }
+{
+    match observed {
+        Observed::Refused(_) => at,
+        Observed::Read(observation) => put_row(out, at, head, form, observation),
+    }
+}
+
+fn put_observations(
+    out: &mut [u8],
+    at: usize,
+    head: &[u8],
+    form: Form,
+    count: u8,
+    message: &[u8],
+) -> usize
+    ensures { λ r. ⌜ Puts (now (out .entry)) at (rowsUpTo count (now (head .entry)) form count (now (message .entry))) r (now (out .exit)) ⌝ }
+{
+    let mut next = at;
+    for index in 0..count as usize {
+        let observed = macm::observation_as(form, count, message, index);
+        next = put_observed(out, next, head, form, observed);
+    }
+    next
+}
+
+// The rows of all observations of the message at a position, as its bytes claim it. What is the same in all of them is put together once.
 pub fn put_rows(out: &mut [u8], at: usize, position: u64, message: &[u8]) -> usize
     ensures { λ r. ⌜ Puts (now (out .entry)) at (rowsText position (now (message .entry))) r (now (out .exit)) ⌝ }
 {
-    let mut next = at;
-    for index in 0..255 {
-        let Reading::Observed(header, _, observation) = macm::read(message, index) else {
-            return next;
-        };
-        next = put_row(out, next, position, header, observation);
-    }
-    next
+    let Head::Read(header, count) = macm::claimed_header(message) else {
+        return at;
+    };
+    let form = header.form;
+    let mut head = [0u8; 80];
+    let width = put_head(&mut head, 0, position, header);
+    put_observations(out, at, text::front(&head, width), form, count, message)
 }

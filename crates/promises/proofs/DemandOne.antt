@@ -12,7 +12,7 @@ use Rattle.macm.specs.declared.Header.{Header}
 use Rattle.macm.specs.declared.Observation.{Observation}
 use Rattle.macm.specs.Check.{verdict}
 use Rattle.macm.specs.Answers.{checkNumber}
-use Rattle.macm.specs.Read.{readOf}
+use Rattle.macm.specs.Read.{claimedHead, headOf, observedAs, observedOf}
 use Rattle.refusal.specs.declared.Written.{Written}
 use Rattle.refusal.specs.Written.{writtenNumber, writtenLength}
 use Rattle.compose.specs.Start.{startOf, startBytes}
@@ -25,7 +25,7 @@ use Rattle.novatel.specs.Entries.{readingOf, writingOf, writingBytes, correctio
 use Rattle.stream.specs.declared.State.{State}
 use Rattle.stream.specs.Reader.{feedCall, finishCall}
 use Rattle.owed.specs.Meets.{AsksNothing}
-use Rattle.promises.specs.Numbers.{readNumber, nextNumber, reasonNumber, recordNumber, correctionNumber, answerNumber, Refuses, Unchanged, CheckTable, ReadTable, SetTable, StartTable, ConvertTable, NextTable, ReasonTable, FinishTable, FeedTable, RecordTable, CorrectionTable, RecordWriteTable}
+use Rattle.promises.specs.Numbers.{headNumber, observedNumber, nextNumber, reasonNumber, recordNumber, correctionNumber, answerNumber, Refuses, Unchanged, CheckTable, ClaimedTable, HeadTable, IndexTable, KnownTable, StartTable, ConvertTable, NextTable, ReasonTable, FinishTable, FeedTable, RecordTable, CorrectionTable, RecordWriteTable}
 use Rattle.promises.proofs.Numbers as numbers
 use Rattle.promises.proofs.Unchanged as unchanged
 use Rattle.octets.proofs as octets
@@ -50,13 +50,23 @@ use Rattle.board.proofs as board
 pub check-by-number : (m : List ℕ) → CheckTable m (checkNumber (verdict m))
 check-by-number m = numbers.check-table m
 
-pub read-by-number : (m : List ℕ) (j : ℕ) → ReadTable m j (readNumber (readOf m j))
-read-by-number m j = numbers.read-table m j
+pub header-by-number : (m : List ℕ) → HeadTable m (headNumber (headOf m))
+header-by-number m = numbers.head-table m
+
+pub observation-by-number : (m : List ℕ) (j : ℕ) → IndexTable m j (observedNumber (observedOf m j))
+observation-by-number m j = numbers.observed-table m j
+
+-- and those that run no checksum
+pub claimed-by-number : (m : List ℕ) → ClaimedTable m (headNumber (claimedHead m))
+claimed-by-number m = numbers.claimed-table m
+
+pub known-by-number : (f : Form) (k : ℕ) (m : List ℕ) (j : ℕ) → KnownTable f k m j (observedNumber (observedAs f k m j))
+known-by-number f k m j = numbers.known-table f k m j
 
 pub start-by-number : (h : Header) (n : ℕ) (out : List ℕ) → StartTable h n out (writtenNumber (startOf h n out))
 start-by-number h n out = numbers.start-table h n out
 
-pub set-by-number : (m : List ℕ) (j : ℕ) → SetTable m j (writtenNumber (setOf m j))
+pub set-by-number : (m : List ℕ) (j : ℕ) → IndexTable m j (writtenNumber (setOf m j))
 set-by-number m j = numbers.set-table m j
 
 -- g is the form converted to: `to_new` and `to_old`
@@ -110,11 +120,14 @@ finish-refused s w o = unchanged.finish-unchanged s w o
 -- ---- it takes all inputs, so nobody has to check first: what an entry asks, which the checker makes of its `requires`, always holds
 pub reading-asks-nothing :
     AsksNothing macm.check.ended macm.check.Reads.Asked
-    × AsksNothing macm.read.ended macm.read.Reads.Asked
+    × AsksNothing macm.read_header.ended macm.read_header.Reads.Asked
+    × AsksNothing macm.read_observation.ended macm.read_observation.Reads.Asked
+    × AsksNothing macm.claimed_header.ended macm.claimed_header.Reads.Asked
+    × AsksNothing macm.observation_as.ended macm.observation_as.Reads.Asked
     × AsksNothing division.next_message.ended division.next_message.Reads.Asked
     × AsksNothing division.message_part.ended division.message_part.Reads.Asked
     × AsksNothing reason.reason_at.ended reason.reason_at.Reads.Asked
-reading-asks-nothing = ((λ κs a. tt), (λ κs a. tt), (λ κs a. tt), (λ κs a. tt), (λ κs a. tt))
+reading-asks-nothing = ((λ κs a. tt), (λ κs a. tt), (λ κs a. tt), (λ κs a. tt), (λ κs a. tt), (λ κs a. tt), (λ κs a. tt), (λ κs a. tt))
 
 pub writing-asks-nothing :
     AsksNothing compose.start.ended compose.start.Reads.Asked
@@ -147,7 +160,8 @@ records-ask-nothing = ((λ κs a. tt), (λ κs a. tt), (λ κs a. tt), (λ κs a
 
 pub board-asks-nothing :
     AsksNothing board.cs_check.ended board.cs_check.Reads.Asked
-    × AsksNothing board.cs_read.ended board.cs_read.Reads.Asked
+    × AsksNothing board.cs_read_header.ended board.cs_read_header.Reads.Asked
+    × AsksNothing board.cs_read_observation.ended board.cs_read_observation.Reads.Asked
     × AsksNothing board.cs_start.ended board.cs_start.Reads.Asked
     × AsksNothing board.cs_set.ended board.cs_set.Reads.Asked
     × AsksNothing board.cs_to_new.ended board.cs_to_new.Reads.Asked
@@ -165,7 +179,7 @@ pub board-asks-nothing :
     × AsksNothing board.cs_rangecmp_range_mm.ended board.cs_rangecmp_range_mm.Reads.Asked
     × AsksNothing board.cs_rangecmp_adr_512ths.ended board.cs_rangecmp_adr_512ths.Reads.Asked
 board-asks-nothing =
-    ((λ κs a. tt), (λ κs a. tt), (λ κs a. tt), (λ κs a. tt), (λ κs a. tt), (λ κs a. tt), (λ κs a. tt), (λ κs a. tt), (λ κs a. tt), (λ κs a. tt), (λ κs a. tt), (λ κs a. tt), (λ κs a. tt), (λ κs a. tt), (λ κs a. tt), (λ κs a. tt), (λ κs a. tt), (λ κs a. tt))
+    ((λ κs a. tt), (λ κs a. tt), (λ κs a. tt), (λ κs a. tt), (λ κs a. tt), (λ κs a. tt), (λ κs a. tt), (λ κs a. tt), (λ κs a. tt), (λ κs a. tt), (λ κs a. tt), (λ κs a. tt), (λ κs a. tt), (λ κs a. tt), (λ κs a. tt), (λ κs a. tt), (λ κs a. tt), (λ κs a. tt), (λ κs a. tt))
 
 -- and the parts that the entries are made of
 pub bytes-ask-nothing :
@@ -215,7 +229,8 @@ pub words-ask-nothing :
     AsksNothing words.form_in.ended words.form_in.Reads.Asked
     × AsksNothing words.header_in.ended words.header_in.Reads.Asked
     × AsksNothing words.observation_in.ended words.observation_in.Reads.Asked
-    × AsksNothing words.reading_words.ended words.reading_words.Reads.Asked
+    × AsksNothing words.head_words.ended words.head_words.Reads.Asked
+    × AsksNothing words.observed_words.ended words.observed_words.Reads.Asked
     × AsksNothing words.written_words.ended words.written_words.Reads.Asked
     × AsksNothing words.found_words.ended words.found_words.Reads.Asked
     × AsksNothing words.reason_words.ended words.reason_words.Reads.Asked
@@ -225,7 +240,7 @@ pub words-ask-nothing :
     × AsksNothing words.record_words.ended words.record_words.Reads.Asked
     × AsksNothing words.adr_words.ended words.adr_words.Reads.Asked
 words-ask-nothing =
-    ((λ κs a. tt), (λ κs a. tt), (λ κs a. tt), (λ κs a. tt), (λ κs a. tt), (λ κs a. tt), (λ κs a. tt), (λ κs a. tt), (λ κs a. tt), (λ κs a. tt), (λ κs a. tt), (λ κs a. tt))
+    ((λ κs a. tt), (λ κs a. tt), (λ κs a. tt), (λ κs a. tt), (λ κs a. tt), (λ κs a. tt), (λ κs a. tt), (λ κs a. tt), (λ κs a. tt), (λ κs a. tt), (λ κs a. tt), (λ κs a. tt), (λ κs a. tt))
 
 pub text-asks-nothing :
     AsksNothing text.put.ended text.put.Reads.Asked

@@ -9,7 +9,7 @@ use Rattle.macm.specs.declared.Observation.{Observation}
 use Rattle.macm.specs.Form.{lead, size}
 use Rattle.macm.specs.Check.{verdict}
 use Rattle.macm.specs.Observation.{observationBytes}
-use Rattle.macm.specs.Read.{readOf}
+use Rattle.macm.specs.Read.{headOf}
 use Rattle.macm.specs.Answers.{checkNumber, headerIn}
 use Rattle.compose.specs.Seal.{sealed}
 use Rattle.promises.specs.Joined.{joined}
@@ -23,7 +23,7 @@ use Rattle.promises.proofs.OneByte.{changed-refused}
 
 -- an accepted message, read and written again wherever there is room, gives the same bytes; it has no more observations than start can be given
 pub read-write : (m out : List ℕ) → Bytes m → checkNumber (verdict m) ≡ 0 → length m ≤ length out
-    → (length (observationsOf m) ≤ 255) × (write (headerIn (readOf m 0)) (observationsOf m) out ≡ made m)
+    → (length (observationsOf m) ≤ 255) × (write (headerIn (headOf m)) (observationsOf m) out ≡ made m)
 read-write m out b accepted room = written-again m out b accepted room
 
 -- a header with up to 255 observations, of either form, written where there is room and read, gives the same fields

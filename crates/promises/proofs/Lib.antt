@@ -2,6 +2,8 @@ pub mod DemandOne
 pub mod DemandTwo
 pub mod DemandThree
 pub mod Reasons
+pub mod Apart
+pub mod Printed
 pub mod Ranges
 pub mod Records
 pub mod WrongPrograms

@@ -1,5 +1,5 @@
 -- Each entry refuses by document 01's numbers: each number under its condition and no other, and 0 where none holds. Assumes nothing.
-use Prim.Native.Nat.{ℕ, _+_, _-_, _≤_, _<_}
+use Prim.Native.Nat.{ℕ, _+_, _-_, _≤_}
 use mathlib.Core.Path.{_≡_, refl, sym, ap, _∙_}
 use mathlib.Core.Bool.{Bool, true, false, cond, _&&_, true≢false}
 use mathlib.Core.Logic.{_⊎_, inl, inr, ⊎-elim}
@@ -10,20 +10,21 @@ use lib.Dec.{ltb, leb, eqb}
 use borrow.Author.Tests.{ltb-true, ltb-false, leb-true, leb-false, eqb-true, eqb-false, le-ltb}
 use Rattle.octets.specs.Begins.{fit, begins}
 use Rattle.octets.specs.Parts.{part}
-use Rattle.refusal.specs.declared.Refusal.the-variants.{NoObservation, NoRoom, OtherForm, PastEnd, OtherLength, OtherSignal, TooWide}
+use Rattle.refusal.specs.declared.Refusal.{Refusal}
+use Rattle.refusal.specs.declared.Refusal.the-variants.{TooShort, NoSync, WrongLength, NoObservation, NoRoom, OtherForm, PastEnd, OtherLength, OtherSignal, TooWide}
+use Rattle.refusal.specs.Numbers.{numberOf}
 use Rattle.refusal.proofs.Numbered.{positive}
 use Rattle.macm.specs.declared.Form.{Form}
 use Rattle.macm.specs.declared.Form.the-variants.{New, Old}
 use Rattle.macm.specs.declared.Header.{Header}
-use Rattle.macm.specs.declared.Reading.the-variants.{Refused as NotRead, HeaderOnly, Observed}
 use Rattle.macm.specs.declared.Verdict.{Verdict}
 use Rattle.macm.specs.declared.Verdict.the-variants.{Refused, Accepted}
-use Rattle.macm.specs.Form.{newSync, oldSync, lead, countAt, observationAt, size}
-use Rattle.macm.specs.Check.{agrees, verdictAs, verdictBy, verdict}
+use Rattle.macm.specs.Form.{newSync, oldSync, lead, countAt, size}
+use Rattle.macm.specs.Check.{agrees, shapeAs, shapeBy, shapeOf, verdict}
 use Rattle.macm.specs.Answers.{checkNumber}
-use Rattle.macm.specs.Observation.{observationOf}
-use Rattle.macm.specs.Read.{headerOf, readAs, readBy, readOf}
-use Rattle.macm.proofs.CheckSteps.{is-new, is-old, is-neither, too-short, checked-by, wrong-length, accepts, wrong-checksum}
+use Rattle.macm.specs.Read.{headerOf, claimedHead, headOf, observedAs, observedOf}
+use Rattle.macm.proofs.CheckSteps.{five, is-new, is-old, is-neither, too-short, shaped-by, wrong-length, right-length, shaped, refuses, accepts, wrong-checksum, fine}
+use Rattle.macm.proofs.ReadSteps.{claimed-refused, claimed-there, head-refused, head-accepted, observed-refused, observed-accepted, observed-other-length, observed-there, observed-far}
 use Rattle.macm.proofs.Leads.{lead-of}
 use Rattle.refusal.specs.declared.Written.the-variants.{Refused as NotWritten, Length}
 use Rattle.refusal.specs.Written.{writtenNumber}
@@ -53,7 +54,7 @@ use Rattle.novatel.specs.Record.{recordOf, fits}
 use Rattle.novatel.specs.Entries.{readingOf, writingOf, saysGps, correctionIn, correctionOf}
 use Rattle.novatel.specs.Rolls.{rollsOf, correctedOf}
 use Rattle.promises.proofs.RecordBack.{fitting, holding}
-use Rattle.promises.specs.Numbers.{readNumber, nextNumber, reasonNumber, recordNumber, correctionNumber, answerNumber, Differs, OfForm, CheckTable, ReadTable, SetTable, Room, StartTable, ConvertTable, NextTable, ReasonTable, Buffers, Sound, FinishTable, FeedTable, RecordTable, CorrectionTable, RecordWriteTable}
+use Rattle.promises.specs.Numbers.{headNumber, observedNumber, nextNumber, reasonNumber, recordNumber, correctionNumber, answerNumber, OfForm, AfterShape, Differs, CheckTable, ClaimedTable, HeadTable, Index, IndexTable, KnownTable, Room, StartTable, ConvertTable, NextTable, ReasonTable, Buffers, Sound, FinishTable, FeedTable, RecordTable, CorrectionTable, RecordWriteTable}
 
 -- ---- the message check
 module _ (m : List ℕ) where
@@ -77,82 +78,99 @@ module _ (m : List ℕ) where
   unfolding agrees
   checksum-agrees l e d = d (eqb-true _ _ (rw (le-ltb (length m) 5 (omega arith)) at e))
 
-  of-form : (f : Form) → 15 ≤ length m → take 4 m ≡ take 4 (lead f) → verdict m ≡ verdictAs f m → OfForm f m (checkNumber (verdict m))
-  of-form f l sync e = (sync, go (eqb (length m) s) refl (agrees m) refl)
-    where
-      s : ℕ
-      s = size f (getD m (countAt f) 0)
-
-      go : (a : Bool) → eqb (length m) s ≡ a → (b : Bool) → agrees m ≡ b
-          → ((checkNumber (verdict m) ≡ 3) × (length m ≡ s → ⊥)) ⊎ ((length m ≡ s) × (((checkNumber (verdict m) ≡ 4) × Differs m) ⊎ ((checkNumber (verdict m) ≡ 0) × (Differs m → ⊥))))
-      go false p b q =
-          let n = eqb-false (length m) s p in
-          inl (ap checkNumber (e ∙ sym (wrong-length m f (countAt f) s refl refl n)), n)
-      go true p false q =
-          let n = eqb-true (length m) s p in
-          inr (n, inl (ap checkNumber (e ∙ sym (wrong-checksum m f (countAt f) s refl refl n q)), checksum-differs l q))
-      go true p true q =
-          let n = eqb-true (length m) s p in
-          inr (n, inr (ap checkNumber (e ∙ sym (accepts m f (countAt f) s refl refl n q)), checksum-agrees l q))
-
-  first-four : (f : Form) → 15 ≤ length m → m ≡ lead f ++ drop (countAt f) m → take 4 m ≡ take 4 (lead f)
-  first-four f l e = ap (take 4) e ∙ go f
+  first-four : (f : Form) → m ≡ lead f ++ drop (countAt f) m → take 4 m ≡ take 4 (lead f)
+  first-four f e = ap (take 4) e ∙ go f
     where
       go : (g : Form) → take 4 (lead g ++ drop (countAt f) m) ≡ take 4 (lead g)
       go (New t q) = refl
       go (Old v) = refl
 
+  -- 1 to 3, of any answer that gives them as the check does before its checksum
+  module _ (T : ℕ → Type 0) (i : ℕ) (refused : (r : Refusal) → shapeOf m ≡ Refused r → i ≡ numberOf r) (shaped-so : (f : Form) (n : ℕ) → shapeOf m ≡ Accepted f n → T i) where
+    of-form : (f : Form) → take 4 m ≡ take 4 (lead f) → shapeOf m ≡ shapeAs f m → OfForm T f m i
+    of-form f sync e = (sync, go (eqb (length m) s) refl)
+      where
+        s : ℕ
+        s = size f (getD m (countAt f) 0)
+
+        go : (a : Bool) → eqb (length m) s ≡ a → ((i ≡ 3) × (length m ≡ s → ⊥)) ⊎ ((length m ≡ s) × T i)
+        go false p =
+            let n = eqb-false (length m) s p in
+            inl (refused WrongLength (e ∙ sym (wrong-length m f (countAt f) s refl refl n)), n)
+        go true p =
+            let n = eqb-true (length m) s p in
+            inr (n, shaped-so f _ (e ∙ sym (right-length m f (countAt f) s refl refl n)))
+
+    after-shape : AfterShape T m i
+    unfolding shapeBy
+    after-shape = go (ltb (length m) 15) refl (begins newSync m) refl (begins oldSync m) refl
+      where
+        go : (a : Bool) → ltb (length m) 15 ≡ a → (b : Bool) → begins newSync m ≡ b → (c : Bool) → begins oldSync m ≡ c → AfterShape T m i
+        go true p b q c r = let l = ltb-true (length m) 15 p in inl (refused TooShort (sym (too-short m l)), l)
+        go false p true q c r =
+            let l = ltb-false (length m) 15 p in
+            let k = sym (is-new m q) in
+            let f = New (getD m 4 0) (getD m 5 0) in
+            inr (l, inr (f, of-form f (first-four f (lead-of m f l k)) (sym (shaped-by m _ l k))))
+        go false p false q true r =
+            let l = ltb-false (length m) 15 p in
+            let k = sym (is-old m q r) in
+            let f = Old (getD m 4 0) in
+            inr (l, inr (f, of-form f (first-four f (lead-of m f l k)) (sym (shaped-by m _ l k))))
+        go false p false q false r =
+            let l = ltb-false (length m) 15 p in
+            inr (l, inl (refused NoSync (sym (shaped-by m _ l (sym (is-neither m q r)))), (λ e. not (sym (new-so e) ∙ q)), (λ e. not (sym (old-so e) ∙ r))))
+          where
+            not : true ≡ false → ⊥
+            not e = let z : _≡_ {A = ℕ} 0 1 = cc in omega arith
+
   pub check-table : CheckTable m (checkNumber (verdict m))
-  unfolding verdictBy
-  check-table = go (ltb (length m) 15) refl (begins newSync m) refl (begins oldSync m) refl
+  check-table = after-shape (λ i. ((i ≡ 4) × Differs m) ⊎ ((i ≡ 0) × (Differs m → ⊥))) (checkNumber (verdict m)) (λ r e. ap checkNumber (sym (refuses m r e))) (λ f n e. summed f n e (agrees m) refl)
     where
-      go : (a : Bool) → ltb (length m) 15 ≡ a → (b : Bool) → begins newSync m ≡ b → (c : Bool) → begins oldSync m ≡ c → CheckTable m (checkNumber (verdict m))
-      go true p b q c r = let l = ltb-true (length m) 15 p in inl (ap checkNumber (sym (too-short m l)), l)
-      go false p true q c r =
-          let l = ltb-false (length m) 15 p in
-          let k = sym (is-new m q) in
-          let f = New (getD m 4 0) (getD m 5 0) in
-          inr (l, inr (f, of-form f l (first-four f l (lead-of m f l k)) (sym (checked-by m _ l k))))
-      go false p false q true r =
-          let l = ltb-false (length m) 15 p in
-          let k = sym (is-old m q r) in
-          let f = Old (getD m 4 0) in
-          inr (l, inr (f, of-form f l (first-four f l (lead-of m f l k)) (sym (checked-by m _ l k))))
-      go false p false q false r =
-          let l = ltb-false (length m) 15 p in
-          inr (l, inl (ap checkNumber (sym (checked-by m _ l (sym (is-neither m q r)))), (λ e. not (sym (new-so e) ∙ q)), (λ e. not (sym (old-so e) ∙ r))))
-        where
-          not : true ≡ false → ⊥
-          not e = let z : _≡_ {A = ℕ} 0 1 = cc in omega arith
+      summed : (f : Form) (n : ℕ) → shapeOf m ≡ Accepted f n → (b : Bool) → agrees m ≡ b
+          → ((checkNumber (verdict m) ≡ 4) × Differs m) ⊎ ((checkNumber (verdict m) ≡ 0) × (Differs m → ⊥))
+      summed f n e false q = inl (ap checkNumber (sym (wrong-checksum m f n e q)), checksum-differs (omega (arith, five f, shaped m f n e .long)) q)
+      summed f n e true q = inr (ap checkNumber (sym (accepts m f n e q)), checksum-agrees (omega (arith, five f, shaped m f n e .long)) q)
+
+  pub claimed-table : ClaimedTable m (headNumber (claimedHead m))
+  claimed-table = after-shape (λ i. i ≡ 0) (headNumber (claimedHead m)) (λ r e. ap headNumber (sym (claimed-refused m r e))) (λ f n e. ap headNumber (sym (claimed-there m f n (headerOf f m) e refl)))
 
 -- ---- reading and writing
-pub read-table : (m : List ℕ) (j : ℕ) → ReadTable m j (readNumber (readOf m j))
-unfolding readOf readBy readAs
-read-table m j = go (verdict m) refl
+pub head-table : (m : List ℕ) → HeadTable m (headNumber (headOf m))
+head-table m = go (verdict m) refl
   where
-    go : (v : Verdict) → verdict m ≡ v → ReadTable m j (readNumber (readBy v m j))
-    go (Refused r) e = inl (ap checkNumber (sym e), positive r)
-    go (Accepted f k) e = inr (f, k, e, test (ltb j k) refl (eqb j 0) refl)
-      where
-        test : (a : Bool) → ltb j k ≡ a → (b : Bool) → eqb j 0 ≡ b
-            → let i = readNumber (cond a (Observed (headerOf f m) k (observationOf (part (observationAt f j) 24 m))) (cond b (HeaderOnly (headerOf f m)) (NotRead NoObservation))) in
-            ((i ≡ 5) × (k ≤ j) × ((j ≡ 0) × (k ≡ 0) → ⊥)) ⊎ ((i ≡ 0) × ((j < k) ⊎ ((j ≡ 0) × (k ≡ 0))))
-        test true p b q = inr (refl, inl (ltb-true j k p))
-        test false p true q =
-            let far = ltb-false j k p in
-            let first = eqb-true j 0 q in
-            inr (refl, inr (first, omega arith))
-        test false p false q = inl (refl, ltb-false j k p, λ z. eqb-false j 0 q (z .0))
+    go : (v : Verdict) → verdict m ≡ v → HeadTable m (headNumber (headOf m))
+    go (Refused r) e = let z = ap headNumber (sym (head-refused m r e)) in inl (z ∙ ap checkNumber (sym e), rw z (positive r))
+    go (Accepted f k) e = inr (f, k, e, ap headNumber (sym (head-accepted m f k e)))
 
-pub set-table : (m : List ℕ) (j : ℕ) → SetTable m j (writtenNumber (setOf m j))
+pub known-table : (f : Form) (k : ℕ) (m : List ℕ) (j : ℕ) → KnownTable f k m j (observedNumber (observedAs f k m j))
+known-table f k m j = go (eqb (length m) (size f k)) refl (ltb j k) refl
+  where
+    go : (a : Bool) → eqb (length m) (size f k) ≡ a → (b : Bool) → ltb j k ≡ b → KnownTable f k m j (observedNumber (observedAs f k m j))
+    go false p b q = let n = eqb-false (length m) (size f k) p in inl (ap observedNumber (sym (observed-other-length m j f k n)), n)
+    go true p true q = let n = eqb-true (length m) (size f k) p in inr (n, inr (ap observedNumber (sym (observed-there m j f k n (ltb-true j k q) _ refl)), ltb-true j k q))
+    go true p false q = let n = eqb-true (length m) (size f k) p in inr (n, inl (ap observedNumber (sym (observed-far m j f k n (ltb-false j k q))), ltb-false j k q))
+
+pub observed-table : (m : List ℕ) (j : ℕ) → IndexTable m j (observedNumber (observedOf m j))
+observed-table m j = go (verdict m) refl
+  where
+    long : (f : Form) (k : ℕ) → verdict m ≡ Accepted f k → KnownTable f k m j (observedNumber (observedAs f k m j)) → Index k j (observedNumber (observedAs f k m j))
+    long f k e (inl n) = absurd (n .1 (fine m f k e .long))
+    long f k e (inr t) = t .1
+
+    go : (v : Verdict) → verdict m ≡ v → IndexTable m j (observedNumber (observedOf m j))
+    go (Refused r) e = let z = ap observedNumber (sym (observed-refused m j r e)) in inl (z ∙ ap checkNumber (sym e), rw z (positive r))
+    go (Accepted f k) e = inr (f, k, e, rw (← (observed-accepted m j f k e)) (long f k e (known-table f k m j)))
+
+pub set-table : (m : List ℕ) (j : ℕ) → IndexTable m j (writtenNumber (setOf m j))
 unfolding setOf setBy
 set-table m j = go (verdict m) refl
   where
-    go : (v : Verdict) → verdict m ≡ v → SetTable m j (writtenNumber (setBy v m j))
+    go : (v : Verdict) → verdict m ≡ v → IndexTable m j (writtenNumber (setBy v m j))
     go (Refused r) e = inl (ap checkNumber (sym e), positive r)
     go (Accepted f k) e = inr (f, k, e, test (ltb j k) refl)
       where
-        test : (a : Bool) → ltb j k ≡ a → let i = writtenNumber (cond a (Length (length m)) (NotWritten NoObservation)) in ((i ≡ 5) × (k ≤ j)) ⊎ ((i ≡ 0) × (j < k))
+        test : (a : Bool) → ltb j k ≡ a → Index k j (writtenNumber (cond a (Length (length m)) (NotWritten NoObservation)))
         test true p = inr (refl, ltb-true j k p)
         test false p = inl (refl, ltb-false j k p)
 

@@ -16,12 +16,13 @@ use Rattle.refusal.specs.declared.Refusal.{Refusal}
 use Rattle.refusal.proofs.Numbered.{positive}
 use Rattle.macm.specs.declared.Form.the-variants.{New, Old}
 use Rattle.macm.specs.declared.Observation.{Observation}
-use Rattle.macm.specs.declared.Reading.{Reading}
-use Rattle.macm.specs.declared.Reading.the-variants.{HeaderOnly}
+use Rattle.macm.specs.declared.Head.{Head}
+use Rattle.macm.specs.declared.Head.the-variants.{Read as Headed}
+use Rattle.macm.specs.declared.Observed.{Observed}
 use Rattle.macm.specs.declared.Verdict.the-variants.{Refused}
-use Rattle.macm.specs.Check.{formOf, agrees, verdictAs, verdictBy, verdict}
+use Rattle.macm.specs.Check.{formOf, agrees, shapeAs, shapeBy, shapeOf, verdictBy, verdict}
 use Rattle.macm.specs.Observation.{observationBytes}
-use Rattle.macm.specs.Read.{headerOf, readAs, readBy, readOf}
+use Rattle.macm.specs.Read.{headerOf, headBy, headOf, observedAs, observedBy, observedOf}
 use Rattle.macm.specs.Answers.{checkNumber, headerIn}
 use Rattle.compose.specs.Seal.{sealed}
 use Rattle.compose.specs.Set.{withObservation, setOf, setBytesBy, setBytes}
@@ -32,6 +33,7 @@ use Rattle.stream.specs.declared.Answer.the-variants.{NeedsMore, Message}
 use Rattle.stream.specs.Scan.{settle, seen, scanned, scan}
 use Rattle.stream.specs.Feed.{fed, feed}
 use Rattle.stream.specs.Reader.{freshState, checked, feedCheckedBy, feedChecked, Call, replyOf, feedCall}
+use Rattle.promises.specs.Numbers.{observedNumber}
 use Rattle.samples.specs.Table.{A, B, All}
 use Rattle.samples.proofs.Proved.{samples}
 use Rattle.owed.specs.Meets.{Program, Meets}
@@ -63,37 +65,62 @@ not-refusing-everything check refuses meets =
     let z : checkNumber (verdict A) ≡ checkNumber (Refused (r .0)) = ap checkNumber (sym (meets κs a) ∙ r .1) in
     omega (arith, positive (r .0), A-accepted, z)
 
--- ---- a read that gives one fixed answer, be it only of accepted messages: A and B are of different forms
-A-read : readOf A 0 ≡ HeaderOnly (record { form = New 0 0; time = 245370000; offset = 0x407C1000 })
-unfolding readOf readBy readAs headerOf verdict verdictBy verdictAs formOf agrees fit checksumFrom numberFrom
+-- ---- a read of the header that gives one fixed answer, be it only of accepted messages: A and B are of different forms
+A-read : headOf A ≡ Headed (record { form = New 0 0; time = 245370000; offset = 0x407C1000 }) 0
+unfolding headOf headBy headerOf verdict verdictBy shapeOf shapeBy shapeAs formOf agrees fit checksumFrom numberFrom
 A-read = refl
 
-B-read : readOf B 0 ≡ HeaderOnly (record { form = Old 2; time = 245370000; offset = 0x407C1000 })
-unfolding readOf readBy readAs headerOf verdict verdictBy verdictAs formOf agrees fit checksumFrom numberFrom
+B-read : headOf B ≡ Headed (record { form = Old 2; time = 245370000; offset = 0x407C1000 }) 0
+unfolding headOf headBy headerOf verdict verdictBy shapeOf shapeBy shapeAs formOf agrees fit checksumFrom numberFrom
 B-read = refl
 
-pub not-one-fixed-answer :
-    (read : Program macm.read.ended) (fixed : Reading) →
-    ((κs : Lfts 1) (a : Args macm.read.signature κs) → checkNumber (verdict (a .0 .now)) ≡ 0 → read .answers κs a ≡ fixed) →
-    Meets macm.read.ended macm.read.Reads.Learnt read →
+pub not-one-fixed-header :
+    (read : Program macm.read_header.ended) (fixed : Head) →
+    ((κs : Lfts 1) (a : Args macm.read_header.signature κs) → checkNumber (verdict (a .0 .now)) ≡ 0 → read .answers κs a ≡ fixed) →
+    Meets macm.read_header.ended macm.read_header.Reads.Learnt read →
     ⊥
-not-one-fixed-answer read fixed always meets =
+not-one-fixed-header read fixed always meets =
     let κs : Lfts 1 = ([], tt) in
-    let p = sym (always κs (reference A, (0, tt)) A-accepted) ∙ meets κs (reference A, (0, tt)) ∙ A-read in
-    let q = sym (always κs (reference B, (0, tt)) B-accepted) ∙ meets κs (reference B, (0, tt)) ∙ B-read in
+    let p = sym (always κs (reference A, tt) A-accepted) ∙ meets κs (reference A, tt) ∙ A-read in
+    let q = sym (always κs (reference B, tt) B-accepted) ∙ meets κs (reference B, tt) ∙ B-read in
     let e : New 0 0 ≡ Old 2 = ap (λ r. headerIn r .form) (sym p ∙ q) in
     let z : _≡_ {A = ℕ} 0 1 = cc in
     omega arith
 
--- ---- a set that writes nothing: in a message with one all-zero observation it owes the SID given
+-- ---- a read of an observation that gives one fixed answer: a message with one observation has none at index 1
 abbrev one : List ℕ
 one = 0x4D ∷ 0x41 ∷ 0x43 ∷ 0x4D ∷ 0 ∷ 1 ∷ (replicate 32 0 ++ (1 ∷ []))
 
+one-accepted : checkNumber (verdict one) ≡ 0
+unfolding verdict verdictBy shapeOf shapeBy shapeAs formOf agrees fit checksumFrom
+one-accepted = refl
+
+first-read : observedNumber (observedOf one 0) ≡ 0
+unfolding observedOf observedBy observedAs verdict verdictBy shapeOf shapeBy shapeAs formOf agrees fit checksumFrom
+first-read = refl
+
+second-read : observedNumber (observedOf one 1) ≡ 5
+unfolding observedOf observedBy observedAs verdict verdictBy shapeOf shapeBy shapeAs formOf agrees fit checksumFrom
+second-read = refl
+
+pub not-one-fixed-observation :
+    (read : Program macm.read_observation.ended) (fixed : Observed) →
+    ((κs : Lfts 1) (a : Args macm.read_observation.signature κs) → checkNumber (verdict (a .0 .now)) ≡ 0 → read .answers κs a ≡ fixed) →
+    Meets macm.read_observation.ended macm.read_observation.Reads.Learnt read →
+    ⊥
+not-one-fixed-observation read fixed always meets =
+    let κs : Lfts 1 = ([], tt) in
+    let p = sym (always κs (reference one, (0, tt)) one-accepted) ∙ meets κs (reference one, (0, tt)) in
+    let q = sym (always κs (reference one, (1, tt)) one-accepted) ∙ meets κs (reference one, (1, tt)) in
+    let z : _≡_ {A = ℕ} 0 5 = sym first-read ∙ ap observedNumber (sym p ∙ q) ∙ second-read in
+    omega arith
+
+-- ---- a set that writes nothing: in a message with one all-zero observation it owes the SID given
 abbrev seven : Observation
 seven = record { sid = 7; condition = 0; cn0 = 0; phase = 0; pseudorange = 0; rate = pos 0; lock = lockOf 0 }
 
 set-owes : getD (setBytes one 0 seven) 14 0 ≡ 7
-unfolding setBytes setBytesBy withObservation sealed observationBytes bytesOf verdict verdictBy verdictAs formOf agrees fit checksumFrom
+unfolding setBytes setBytesBy withObservation sealed observationBytes bytesOf verdict verdictBy shapeOf shapeBy shapeAs formOf agrees fit checksumFrom
 set-owes = refl
 
 pub not-writing-nothing :
@@ -161,8 +188,12 @@ module _ (feed : Program stream.feed.ended) (guess : State → ℕ → ℕ) (mee
 pub right-check : Meets macm.check.ended macm.check.Reads.Learnt (record { answers = λ κs a. verdict (a .0 .now); leaves = λ κs a. (tt, tt) })
 right-check κs a = refl
 
-pub right-read : Meets macm.read.ended macm.read.Reads.Learnt (record { answers = λ κs a. readOf (a .0 .now) (a .1 .0); leaves = λ κs a. (tt, (tt, tt)) })
-right-read κs a = refl
+pub right-header : Meets macm.read_header.ended macm.read_header.Reads.Learnt (record { answers = λ κs a. headOf (a .0 .now); leaves = λ κs a. (tt, tt) })
+right-header κs a = refl
+
+pub right-observation :
+    Meets macm.read_observation.ended macm.read_observation.Reads.Learnt (record { answers = λ κs a. observedOf (a .0 .now) (a .1 .0); leaves = λ κs a. (tt, (tt, tt)) })
+right-observation κs a = refl
 
 pub right-set :
     Meets compose.set.ended compose.set.Reads.Learnt

@@ -1,6 +1,7 @@
 pub mod Joined
 pub mod Fields
 pub mod Again
+pub mod Reading
 pub mod Run
 pub mod Given
 pub mod Reason
@@ -8,5 +9,6 @@ pub mod Work
 pub mod Range
 pub mod Record
 pub mod Numbers
+pub mod Printed
 pub mod Calls
 pub mod InPlace

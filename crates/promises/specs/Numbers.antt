@@ -10,8 +10,10 @@ use Rattle.octets.specs.Parts.{part}
 use Rattle.refusal.specs.Numbers.{numberOf}
 use Rattle.macm.specs.declared.Form.{Form}
 use Rattle.macm.specs.declared.Header.{Header}
-use Rattle.macm.specs.declared.Reading.{Reading}
-use Rattle.macm.specs.declared.Reading.the-variants.{Refused as NotRead, HeaderOnly, Observed}
+use Rattle.macm.specs.declared.Head.{Head}
+use Rattle.macm.specs.declared.Head.the-variants.{Refused as NoHead, Read as Headed}
+use Rattle.macm.specs.declared.Observed.{Observed}
+use Rattle.macm.specs.declared.Observed.the-variants.{Refused as NotObserved, Read as Seen}
 use Rattle.macm.specs.declared.Verdict.the-variants.{Accepted}
 use Rattle.macm.specs.Form.{newSync, oldSync, lead, countAt, size}
 use Rattle.macm.specs.Check.{verdict}
@@ -36,10 +38,13 @@ use Rattle.novatel.specs.Record.{recordOf}
 use Rattle.promises.specs.Record.{Holds, OfGps}
 
 -- ---- the number of an answer: 0 where it is no refusal
-abbrev pub readNumber : Reading → ℕ
-readNumber (NotRead r) = numberOf r
-readNumber (HeaderOnly h) = 0
-readNumber (Observed h n o) = 0
+abbrev pub headNumber : Head → ℕ
+headNumber (NoHead r) = numberOf r
+headNumber (Headed h n) = 0
+
+abbrev pub observedNumber : Observed → ℕ
+observedNumber (NotObserved r) = numberOf r
+observedNumber (Seen o) = 0
 
 abbrev pub nextNumber : Next → ℕ
 nextNumber (NotFound r) = numberOf r
@@ -78,31 +83,47 @@ abbrev pub Unchanged : State → List ℕ → List ℕ → Call → Type 0
 Unchanged s w o c = (answerNumber (c .answer) ≡ 0 → ⊥) → (c .state ≡ s) × (c .window ≡ w) × (c .output ≡ o)
 
 -- ---- the message check: 1 fewer than 15 bytes; 2 the first four are neither sync string; 3 the number of bytes is not the one that form and N
--- require; 4 the checksum differs
+-- require; then what follows
+abbrev pub OfForm : (ℕ → Type 0) → Form → List ℕ → ℕ → Type 0
+OfForm T f m n =
+    (take 4 m ≡ take 4 (lead f))
+    × (((n ≡ 3) × (length m ≡ size f (getD m (countAt f) 0) → ⊥)) ⊎ ((length m ≡ size f (getD m (countAt f) 0)) × T n))
+
+abbrev pub AfterShape : (ℕ → Type 0) → List ℕ → ℕ → Type 0
+AfterShape T m n =
+    ((n ≡ 1) × (length m < 15))
+    ⊎ ((15 ≤ length m) × (((n ≡ 2) × (take 4 m ≡ newSync → ⊥) × (take 4 m ≡ oldSync → ⊥)) ⊎ ((f : Form) × OfForm T f m n)))
+
+-- 4 the checksum differs
 abbrev pub Differs : List ℕ → Type 0
 Differs m = (checksumOf (part 4 (length m - 5) m) ≡ getD m (length m - 1) 0 → ⊥)
 
-abbrev pub OfForm : Form → List ℕ → ℕ → Type 0
-OfForm f m n =
-    (take 4 m ≡ take 4 (lead f))
-    × (((n ≡ 3) × (length m ≡ size f (getD m (countAt f) 0) → ⊥))
-    ⊎ ((length m ≡ size f (getD m (countAt f) 0)) × (((n ≡ 4) × Differs m) ⊎ ((n ≡ 0) × (Differs m → ⊥)))))
-
 abbrev pub CheckTable : List ℕ → ℕ → Type 0
-CheckTable m n =
-    ((n ≡ 1) × (length m < 15))
-    ⊎ ((15 ≤ length m) × (((n ≡ 2) × (take 4 m ≡ newSync → ⊥) × (take 4 m ≡ oldSync → ⊥)) ⊎ ((f : Form) × OfForm f m n)))
+CheckTable m n = AfterShape (λ i. ((i ≡ 4) × Differs m) ⊎ ((i ≡ 0) × (Differs m → ⊥))) m n
+
+-- reading a header whose checksum has been run before: 1 to 3
+abbrev pub ClaimedTable : List ℕ → ℕ → Type 0
+ClaimedTable m n = AfterShape (λ i. i ≡ 0) m n
 
 -- 1 to 4 as the check says; of an accepted message what follows
 abbrev pub AfterCheck : (Form → ℕ → ℕ → Type 0) → List ℕ → ℕ → Type 0
 AfterCheck T m n = ((n ≡ checkNumber (verdict m)) × (0 < n)) ⊎ ((f : Form) × (k : ℕ) × (verdict m ≡ Accepted f k) × T f k n)
 
--- 5 the index is N or more, save reading at index 0 with N = 0
-abbrev pub ReadTable : List ℕ → ℕ → ℕ → Type 0
-ReadTable m j n = AfterCheck (λ f k i. ((i ≡ 5) × (k ≤ j) × ((j ≡ 0) × (k ≡ 0) → ⊥)) ⊎ ((i ≡ 0) × ((j < k) ⊎ ((j ≡ 0) × (k ≡ 0))))) m n
+-- reading a header: 1 to 4 and nothing more
+abbrev pub HeadTable : List ℕ → ℕ → Type 0
+HeadTable m n = AfterCheck (λ f k i. i ≡ 0) m n
 
-abbrev pub SetTable : List ℕ → ℕ → ℕ → Type 0
-SetTable m j n = AfterCheck (λ f k i. ((i ≡ 5) × (k ≤ j)) ⊎ ((i ≡ 0) × (j < k))) m n
+-- 5 the index is N or more: with N = 0 every index
+abbrev pub Index : ℕ → ℕ → ℕ → Type 0
+Index k j n = ((n ≡ 5) × (k ≤ j)) ⊎ ((n ≡ 0) × (j < k))
+
+-- reading and setting an observation
+abbrev pub IndexTable : List ℕ → ℕ → ℕ → Type 0
+IndexTable m j n = AfterCheck (λ f k i. Index k j i) m n
+
+-- reading one of a form and a count that are known: 3, then 5
+abbrev pub KnownTable : Form → ℕ → List ℕ → ℕ → ℕ → Type 0
+KnownTable f k m j n = ((n ≡ 3) × (length m ≡ size f k → ⊥)) ⊎ ((length m ≡ size f k) × Index k j n)
 
 -- 6 the output has fewer bytes than the message needs
 abbrev pub Room : ℕ → ℕ → ℕ → Type 0

@@ -2,7 +2,7 @@
 use mathlib.Core.Path.{refl}
 use Rattle.octets.specs.Begins.{fit}
 use Rattle.octets.specs.Checksum.{checksumFrom}
-use Rattle.macm.specs.Check.{verdict, verdictBy, verdictAs, formOf, agrees}
+use Rattle.macm.specs.Check.{verdict, verdictBy, shapeOf, shapeBy, shapeAs, formOf, agrees}
 use Rattle.track.specs.Range.{rangeOf}
 use Rattle.track.specs.Condition.{flagsOf, polarityOf}
 use Rattle.front.specs.Claim.{counted, claimBy, claim}
@@ -11,5 +11,5 @@ use Rattle.division.specs.Division.{lengthOf, stands, divided, divideFrom, divi
 use Rattle.samples.specs.Table.{All, table}
 
 pub samples : All table
-unfolding All verdict verdictBy verdictAs formOf agrees fit checksumFrom rangeOf flagsOf polarityOf counted claimBy claim judged lookBy look lengthOf stands divided divideFrom divide
+unfolding All verdict verdictBy shapeOf shapeBy shapeAs formOf agrees fit checksumFrom rangeOf flagsOf polarityOf counted claimBy claim judged lookBy look lengthOf stands divided divideFrom divide
 samples = (refl, (refl, (refl, (refl, (refl, (refl, (refl, (refl, (refl, (refl, (refl, (refl, tt))))))))))))

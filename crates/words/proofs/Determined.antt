@@ -12,8 +12,11 @@ header-in-determined κs a z z′ w w′ p q = search both
 pub observation-in-determined : Determined words.observation_in.ended words.observation_in.Reads.Learnt
 observation-in-determined κs a z z′ w w′ p q = search both
 
-pub reading-words-determined : Determined words.reading_words.ended words.reading_words.Reads.Learnt
-reading-words-determined κs a z z′ w w′ p q = search both
+pub head-words-determined : Determined words.head_words.ended words.head_words.Reads.Learnt
+head-words-determined κs a z z′ w w′ p q = search both
+
+pub observed-words-determined : Determined words.observed_words.ended words.observed_words.Reads.Learnt
+observed-words-determined κs a z z′ w w′ p q = search both
 
 pub written-words-determined : Determined words.written_words.ended words.written_words.Reads.Learnt
 written-words-determined κs a z z′ w w′ p q = search both

@@ -12,8 +12,10 @@ use Rattle.macm.specs.declared.Form.{Form}
 use Rattle.macm.specs.declared.Form.the-variants.{New, Old}
 use Rattle.macm.specs.declared.Header.{Header}
 use Rattle.macm.specs.declared.Observation.{Observation}
-use Rattle.macm.specs.declared.Reading.{Reading}
-use Rattle.macm.specs.declared.Reading.the-variants.{Refused as NotRead, HeaderOnly, Observed}
+use Rattle.macm.specs.declared.Head.{Head}
+use Rattle.macm.specs.declared.Head.the-variants.{Refused as NoHead, Read as Headed}
+use Rattle.macm.specs.declared.Observed.{Observed}
+use Rattle.macm.specs.declared.Observed.the-variants.{Refused as NotObserved, Read as Seen}
 use Rattle.refusal.specs.declared.Written.{Written}
 use Rattle.refusal.specs.Written.{writtenNumber, writtenLength}
 use Rattle.division.specs.declared.Next.{Next}
@@ -31,7 +33,8 @@ use Rattle.novatel.specs.declared.Correction.{Correction}
 use Rattle.novatel.specs.declared.Correction.the-variants.{Refused as NotCorrected, Corrected}
 use Rattle.words.specs.declared.HeaderWords.{HeaderWords}
 use Rattle.words.specs.declared.ObservationWords.{ObservationWords}
-use Rattle.words.specs.declared.ReadingWords.{ReadingWords}
+use Rattle.words.specs.declared.HeadWords.{HeadWords}
+use Rattle.words.specs.declared.ObservedWords.{ObservedWords}
 use Rattle.words.specs.declared.WrittenWords.{WrittenWords}
 use Rattle.words.specs.declared.FoundWords.{FoundWords}
 use Rattle.words.specs.declared.ReasonWords.{ReasonWords}
@@ -106,14 +109,13 @@ noHeader = record { form = 0; version = 0; signal = 0; tfom = 0; time = 0; offse
 abbrev pub noObservation : ObservationWords
 noObservation = record { sid = 0; condition = 0; cn0 = 0; phase = 0; pseudorange = 0; rate = pos 0; lock = 0 }
 
--- where there is no observation, whether refused or not
-abbrev pub unobservedWords : ℕ → HeaderWords → ReadingWords
-unobservedWords k h = record { refusal = k; count = 0; present = 0; header = h; observation = noObservation }
+abbrev pub headWords : Head → HeadWords
+headWords (NoHead r) = record { refusal = numberOf r; count = 0; header = noHeader }
+headWords (Headed h n) = record { refusal = 0; count = n; header = headerWords h }
 
-abbrev pub readingWords : Reading → ReadingWords
-readingWords (NotRead r) = unobservedWords (numberOf r) noHeader
-readingWords (HeaderOnly h) = unobservedWords 0 (headerWords h)
-readingWords (Observed h n o) = record { refusal = 0; count = n; present = 1; header = headerWords h; observation = observationWords o }
+abbrev pub observedWords : Observed → ObservedWords
+observedWords (NotObserved r) = record { refusal = numberOf r; observation = noObservation }
+observedWords (Seen o) = record { refusal = 0; observation = observationWords o }
 
 abbrev pub writtenWords : Written → WrittenWords
 writtenWords w = record { refusal = writtenNumber w; length = writtenLength w }

@@ -2,9 +2,10 @@
 // the library is in words.
 use division::Next;
 use macm::Form;
+use macm::Head;
 use macm::Header;
 use macm::Observation;
-use macm::Reading;
+use macm::Observed;
 use novatel::Correction;
 use novatel::Record;
 use reason::Reason;
@@ -12,7 +13,7 @@ use refusal::Written;
 use stream::Answer;
 use track::Phase;
 ghost use mathlib.Core.Path.{_≡_};
-ghost use Rattle.words.specs.Words.{lowBits, formIn, headerIn, observationIn, headerWords, observationWords, unobservedWords, readingWords, writtenWords, foundWords, reasonWords, answerWords, phaseWords, recordIn, recordOut, recordWords, adrWords};
+ghost use Rattle.words.specs.Words.{lowBits, formIn, headerIn, observationIn, headerWords, observationWords, headWords, observedWords, writtenWords, foundWords, reasonWords, answerWords, phaseWords, recordIn, recordOut, recordWords, adrWords};
 
 #[repr(C)]
 pub struct HeaderWords {
@@ -36,11 +37,15 @@ pub struct ObservationWords {
 }
 
 #[repr(C)]
-pub struct ReadingWords {
+pub struct HeadWords {
     pub refusal: u64,
     pub count: u64,
-    pub present: u64,
     pub header: HeaderWords,
+}
+
+#[repr(C)]
+pub struct ObservedWords {
+    pub refusal: u64,
     pub observation: ObservationWords,
 }
 
@@ -211,39 +216,41 @@ fn observation_words(o: Observation) -> ObservationWords
     }
 }
 
-// A reading that has no observation.
-fn unobserved(refusal: u64, header: HeaderWords) -> ReadingWords
-    ensures { λ r. ⌜ r ≡ unobservedWords refusal header ⌝ }
+pub fn head_words(head: Head) -> HeadWords
+    ensures { λ r. ⌜ r ≡ headWords head ⌝ }
 {
-    ReadingWords {
-        refusal,
-        count: 0,
-        present: 0,
-        header,
-        observation: ObservationWords {
-            sid: 0,
-            condition: 0,
-            cn0: 0,
-            phase: 0,
-            pseudorange: 0,
-            rate: 0,
-            lock: 0,
+    match head {
+        Head::Refused(refusal) => HeadWords {
+            refusal: refusal::number(refusal),
+            count: 0,
+            header: header_of(0, 0, 0, 0, 0, 0),
+        },
+        Head::Read(header, count) => HeadWords {
+            refusal: 0,
+            count: count as u64,
+            header: header_words(header),
         },
     }
 }
 
-pub fn reading_words(reading: Reading) -> ReadingWords
-    ensures { λ r. ⌜ r ≡ readingWords reading ⌝ }
+pub fn observed_words(observed: Observed) -> ObservedWords
+    ensures { λ r. ⌜ r ≡ observedWords observed ⌝ }
 {
-    let none = header_of(0, 0, 0, 0, 0, 0);
-    match reading {
-        Reading::Refused(refusal) => unobserved(refusal::number(refusal), none),
-        Reading::HeaderOnly(header) => unobserved(0, header_words(header)),
-        Reading::Observed(header, count, observation) => ReadingWords {
+    match observed {
+        Observed::Refused(refusal) => ObservedWords {
+            refusal: refusal::number(refusal),
+            observation: ObservationWords {
+                sid: 0,
+                condition: 0,
+                cn0: 0,
+                phase: 0,
+                pseudorange: 0,
+                rate: 0,
+                lock: 0,
+            },
+        },
+        Observed::Read(observation) => ObservedWords {
             refusal: 0,
-            count: count as u64,
-            present: 1,
-            header: header_words(header),
             observation: observation_words(observation),
         },
     }

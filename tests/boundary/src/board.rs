@@ -77,11 +77,16 @@ pub struct Observation {
 
 #[repr(C)]
 #[derive(Clone, Copy, Debug, Default, PartialEq)]
-pub struct Reading {
+pub struct Head {
     pub refusal: u64,
     pub count: u64,
-    pub present: u64,
     pub header: Header,
+}
+
+#[repr(C)]
+#[derive(Clone, Copy, Debug, Default, PartialEq)]
+pub struct Observed {
+    pub refusal: u64,
     pub observation: Observation,
 }
 
@@ -139,7 +144,8 @@ mod raw {
 
     extern "C" {
         pub fn cs_check(message: *const u8, length: usize) -> u64;
-        pub fn cs_read(message: *const u8, length: usize, index: usize) -> Reading;
+        pub fn cs_read_header(message: *const u8, length: usize) -> Head;
+        pub fn cs_read_observation(message: *const u8, length: usize, index: usize) -> Observed;
         pub fn cs_start(output: *mut u8, output_length: usize, header: Header, count: u8) -> Written;
         pub fn cs_set(message: *mut u8, length: usize, index: usize, observation: Observation) -> u64;
         pub fn cs_to_new(message: *const u8, length: usize, signal: u8, tfom: u8, output: *mut u8, output_length: usize) -> Written;
@@ -175,8 +181,12 @@ pub fn check(message: &[u8]) -> u64 {
     unsafe { raw::cs_check(message.as_ptr(), message.len()) }
 }
 
-pub fn read(message: &[u8], index: usize) -> Reading {
-    unsafe { raw::cs_read(message.as_ptr(), message.len(), index) }
+pub fn read_header(message: &[u8]) -> Head {
+    unsafe { raw::cs_read_header(message.as_ptr(), message.len()) }
+}
+
+pub fn read_observation(message: &[u8], index: usize) -> Observed {
+    unsafe { raw::cs_read_observation(message.as_ptr(), message.len(), index) }
 }
 
 pub fn start(output: &mut [u8], header: Header, count: u8) -> Written {

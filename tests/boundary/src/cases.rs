@@ -32,9 +32,11 @@ const CUT_UNKNOWN: u64 = ACCEPTED + board::CUT_UNKNOWN;
 const CUT_SHORT: u64 = ACCEPTED + board::CUT_SHORT;
 const CHECKSUM: u64 = ACCEPTED + board::CHECKSUM;
 
-pub const KINDS: [Kind; 16] = [
+pub const KINDS: [Kind; 18] = [
     Kind { name: "check", attempt: check, outcomes: &[1, 2, 3, 4, ACCEPTED] },
-    Kind { name: "read", attempt: read, outcomes: &[1, 2, 3, 4, 5, ACCEPTED] },
+    Kind { name: "read_header", attempt: read_header, outcomes: &[1, 2, 3, 4, ACCEPTED] },
+    Kind { name: "read_observation", attempt: read_observation, outcomes: &[1, 2, 3, 4, 5, ACCEPTED] },
+    Kind { name: "read_all", attempt: read_all, outcomes: &[1, 2, 3, 4, ACCEPTED] },
     Kind { name: "start", attempt: start, outcomes: &[6, ACCEPTED] },
     Kind { name: "set", attempt: set, outcomes: &[1, 2, 3, 4, 5, ACCEPTED] },
     Kind { name: "to_new", attempt: to_new, outcomes: &[1, 2, 3, 4, 7, 6, ACCEPTED] },
@@ -81,6 +83,10 @@ fn check(random: &mut Random) -> Verdict<u64> {
     compare::check(&nearly_message(random)).map(|refusal| outcome(refusal, 0))
 }
 
+fn read_header(random: &mut Random) -> Verdict<u64> {
+    compare::read_header(&nearly_message(random)).map(|refusal| outcome(refusal, 0))
+}
+
 /// Mostly an index that the message has, or the first that it has not.
 fn index(random: &mut Random, message: &[u8]) -> usize {
     let count = message.len() / 24;
@@ -92,10 +98,14 @@ fn index(random: &mut Random, message: &[u8]) -> usize {
     }
 }
 
-fn read(random: &mut Random) -> Verdict<u64> {
+fn read_observation(random: &mut Random) -> Verdict<u64> {
     let message = nearly_message(random);
     let index = index(random, &message);
-    compare::read(&message, index).map(|refusal| outcome(refusal, 0))
+    compare::read_observation(&message, index).map(|refusal| outcome(refusal, 0))
+}
+
+fn read_all(random: &mut Random) -> Verdict<u64> {
+    compare::read_all_lent(&nearly_message(random)).map(|refusal| outcome(refusal, 0))
 }
 
 /// A buffer full of anything, of about this length.

@@ -8,10 +8,36 @@ pub fn check(bytes: &[u8]) -> Verdict<u64> {
     Ok(refusal)
 }
 
-pub fn read(bytes: &[u8], index: usize) -> Verdict<u64> {
-    let reading = board::read(bytes, index);
-    same(&format!("read at {index}"), reading, expected::reading(reader::read(bytes, index)))?;
-    Ok(reading.refusal)
+pub fn read_header(bytes: &[u8]) -> Verdict<u64> {
+    let head = board::read_header(bytes);
+    same("read_header", head, expected::head(reader::read_header(bytes)))?;
+    Ok(head.refusal)
+}
+
+pub fn read_observation(bytes: &[u8], index: usize) -> Verdict<u64> {
+    let observed = board::read_observation(bytes, index);
+    same(&format!("read_observation at {index}"), observed, expected::observed(reader::read_observation(bytes, index)))?;
+    Ok(observed.refusal)
+}
+
+/// The header and every observation of a message where it stands. The board's own two calls say the same of it, as one call did before E5: below the
+/// header's count an index is answered, from there on refused with 5, and what has no header has no observation, with the same refusal.
+pub fn read_all(bytes: &[u8]) -> Verdict<u64> {
+    let refusal = read_header(bytes)?;
+    let count = board::read_header(bytes).count as usize;
+    for index in 0..count {
+        same(&format!("refusal at {index} of {count}"), read_observation(bytes, index)?, 0)?;
+    }
+    let behind = if refusal == 0 { 5 } else { refusal };
+    for index in [count, count + 1, 255, 256, usize::MAX / 24 + 1, usize::MAX] {
+        same(&format!("refusal at {index} of {count}"), read_observation(bytes, index)?, behind)?;
+    }
+    Ok(refusal)
+}
+
+/// The same of a message that is lent between other bytes; it stays as it is.
+pub fn read_all_lent(bytes: &[u8]) -> Verdict<u64> {
+    stays("read_all", bytes, read_all)
 }
 
 /// A call that writes: what the board and the second reader answer for equal buffers, and the buffers afterwards.
@@ -62,8 +88,8 @@ pub fn set(message: &[u8], index: usize, observation: board::Observation) -> Ver
     let reader = |copy: &mut [u8]| expected::refusal(reader::set(copy, index, expected::observation_fields(observation)));
     let refusal = writes("set", message, board, reader)?;
     if refusal == 0 {
-        let reading = board::read(&after, index);
-        same("read of what was set", reading.observation, expected::observation(expected::observation_fields(observation)))?;
+        let observed = expected::observed(Ok(expected::observation_fields(observation)));
+        same("read_observation of what was set", board::read_observation(&after, index), observed)?;
     }
     unchanged_if_refused("set", refusal, message, &after)
 }
@@ -128,10 +154,9 @@ pub fn reasons(recording: &[u8], positions: impl IntoIterator<Item = usize>) -> 
 
 /// The reasons of all positions, and of some behind the end; the recording stays as it is.
 pub fn all_reasons(recording: &[u8]) -> Verdict<()> {
-    let (lent, length) = (Lent::new(recording), recording.len());
-    reasons(lent.contents(), (0..=length + 1).chain([length + 256, usize::MAX - 1, usize::MAX]))?;
-    same_bytes("why: the recording", lent.contents(), recording)?;
-    lent.margins_stand("why")
+    let length = recording.len();
+    let positions = (0..=length + 1).chain([length + 256, usize::MAX - 1, usize::MAX]);
+    stays("why", recording, |recording| reasons(recording, positions))
 }
 
 /// The numbers for the track people; doubles are compared by their bits. Answers the kind of the phase.
@@ -172,14 +197,22 @@ fn within(what: &str, double: f64, whole: i128, coarse: u32, fine: u32, most: i1
     same(what, off.abs() <= most * scale, true)
 }
 
-/// A call that only reads: what the board answers, and that the bytes and what surrounds them stay as they are.
-fn reads<T: PartialEq + std::fmt::Debug>(what: &str, bytes: &[u8], board: fn(&[u8]) -> T, expected: T) -> Verdict<T> {
+/// Calls that only read: what is compared of them, and that the bytes and what surrounds them stay as they are.
+fn stays<T>(what: &str, bytes: &[u8], compare: impl FnOnce(&[u8]) -> Verdict<T>) -> Verdict<T> {
     let lent = Lent::new(bytes);
-    let answer = board(lent.contents());
-    same(what, &answer, &expected)?;
+    let answer = compare(lent.contents())?;
     same_bytes(what, lent.contents(), bytes)?;
     lent.margins_stand(what)?;
     Ok(answer)
+}
+
+/// One such call: what the board answers.
+fn reads<T: PartialEq + std::fmt::Debug>(what: &str, bytes: &[u8], board: fn(&[u8]) -> T, expected: T) -> Verdict<T> {
+    stays(what, bytes, |bytes| {
+        let answer = board(bytes);
+        same(what, &answer, &expected)?;
+        Ok(answer)
+    })
 }
 
 /// What is read is written as the same bytes.

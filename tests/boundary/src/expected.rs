@@ -37,16 +37,17 @@ pub fn observation(observation: reader::Observation) -> board::Observation {
     }
 }
 
-pub fn reading(answer: Result<reader::Reading, Refusal>) -> board::Reading {
+pub fn head(answer: Result<reader::Head, Refusal>) -> board::Head {
     match answer {
-        Ok(reading) => board::Reading {
-            refusal: 0,
-            count: reading.count.into(),
-            present: reading.observation.is_some().into(),
-            header: header(reading.header),
-            observation: reading.observation.map(observation).unwrap_or_default(),
-        },
-        Err(refusal) => board::Reading { refusal, ..Default::default() },
+        Ok(head) => board::Head { refusal: 0, count: head.count.into(), header: header(head.header) },
+        Err(refusal) => board::Head { refusal, ..Default::default() },
+    }
+}
+
+pub fn observed(answer: Result<reader::Observation, Refusal>) -> board::Observed {
+    match answer {
+        Ok(fields) => board::Observed { refusal: 0, observation: observation(fields) },
+        Err(refusal) => board::Observed { refusal, ..Default::default() },
     }
 }
 

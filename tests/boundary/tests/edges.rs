@@ -1,7 +1,7 @@
 //! Buffers that end, or begin, at memory nobody may touch: a call that reads or writes one byte outside of what it is lent ends the program.
 
-use boundary::{board, reasons};
-use reader::{LONGEST, RECORD_BYTES};
+use boundary::{board, read_all, reasons};
+use reader::{checksum, Form, LONGEST, RECORD_BYTES};
 use std::ffi::{c_int, c_long, c_void};
 use streams::Random;
 
@@ -72,12 +72,38 @@ fn one_message() {
         let (message, output) = (lent.bytes(message.len(), end, &message), put.bytes(length, other, &[]));
         let refusal = reader::check(message).err().unwrap_or(0);
         assert_eq!(board::check(message), refusal);
-        board::read(message, random.below(3));
+        assert_eq!(read_all(message).unwrap(), refusal);
         board::to_new(message, 0, 0, output);
         board::to_old(message, 0, output);
         board::start(output, board::Header { form: random.below(3) as u64, ..Default::default() }, random.below(4) as u8);
         board::set(message, random.below(3), board::Observation::default());
         assert_eq!(board::check(message), refusal);
+    }
+}
+
+/// Fronts of messages of up to two observations, of all lengths and one byte more, at both walls: where they can have a checksum with a right one, then
+/// with a wrong one, then without a sync string.
+#[test]
+fn reading_at_all_short_lengths() {
+    let mut lent = Walled::new();
+    for (mut random, _) in streams_from(SEED, 10) {
+        for (form, count) in Form::BOTH.into_iter().flat_map(|form| [0, 1, 2].map(|count| (form, count))) {
+            let mut bytes = [&form.sync()[..], &random.bytes(form.length(2) + 1 - 4)].concat();
+            bytes[form.count_place()] = count;
+            for (length, at_the_end) in (0..=bytes.len()).flat_map(|length| [(length, true), (length, false)]) {
+                let message = lent.bytes(length, at_the_end, &bytes[..length]);
+                if length < 15 {
+                    assert_eq!(read_all(message).unwrap(), 1, "{length} bytes");
+                    continue;
+                }
+                let (last, fits) = (length - 1, length == form.length(count));
+                message[last] = checksum(&message[4..last]);
+                for (place, change, refusal) in [(0, 0, if fits { 0 } else { 3 }), (last, 1, if fits { 4 } else { 3 }), (0, 1, 2)] {
+                    message[place] ^= change;
+                    assert_eq!(read_all(message).unwrap(), refusal, "{length} bytes that claim {count} observations");
+                }
+            }
+        }
     }
 }
 

@@ -1,6 +1,6 @@
 //! The messages that 264-21 and 264-04 publish, through the C boundary and the second reader.
 
-use boundary::{all_reasons, board, check, next, numbers, read, recording, run, set, to_new, to_old};
+use boundary::{all_reasons, board, check, next, numbers, read_all_lent, read_observation, recording, run, set, to_new, to_old};
 use reader::LONGEST;
 
 const NEW: &[u8] = include_bytes!("../../../crates/vectors/data/264-21-figure-1.bin");
@@ -33,26 +33,27 @@ fn both_new_messages_are_found() {
 #[test]
 fn the_first_new_message_reads_as_its_breakout_says() {
     let message = &NEW[25..185];
-    let reading = board::read(message, 0);
-    assert_eq!((reading.refusal, reading.count, reading.present), (0, 6, 1));
     let header = board::Header { form: board::NEW, time: 245_370_000, offset: 0x407C_1000, ..Default::default() };
-    assert_eq!(reading.header, header);
-    let observation = reading.observation;
-    assert_eq!((observation.sid, observation.condition, observation.cn0), (2, 0x053F, 36));
+    assert_eq!(board::read_header(message), board::Head { refusal: 0, count: 6, header });
+    let board::Observed { refusal, observation } = board::read_observation(message, 0);
+    assert_eq!((refusal, observation.sid, observation.condition, observation.cn0), (0, 2, 0x053F, 36));
     assert_eq!((observation.pseudorange, observation.rate, observation.lock), (2_058_626_148, 9_879_081, 617_800));
     let phase = board::phase(board::NEW, observation);
     assert_eq!((phase.kind, format!("{:.9}", phase.cycles)), (board::CYCLES, "-461291.428234963".to_string()));
-    assert_eq!(board::read(message, 1).observation.rate, -29_159_042);
+    assert_eq!(board::read_observation(message, 1).observation.rate, -29_159_042);
 }
 
 #[test]
 fn each_observation_reads_and_writes_alike() {
     for message in [&NEW[25..185], &NEW[254..414], &OLD_BY_THE_RULE[25..184], &OLD_BY_THE_RULE[253..412]] {
+        assert_eq!(read_all_lent(message).unwrap(), 0);
+        let form = board::read_header(message).header.form;
         for index in 0..8 {
-            assert_eq!(read(message, index).unwrap(), if index < 6 { 0 } else { 5 });
-            let reading = board::read(message, index);
-            numbers(reading.header.form, reading.observation).unwrap();
-            assert_eq!(set(message, index, board::read(message, 5 - index.min(5)).observation).unwrap(), if index < 6 { 0 } else { 5 });
+            let refusal = if index < 6 { 0 } else { 5 };
+            assert_eq!(read_observation(message, index).unwrap(), refusal);
+            numbers(form, board::read_observation(message, index).observation).unwrap();
+            let other = board::read_observation(message, 5 - index.min(5)).observation;
+            assert_eq!(set(message, index, other).unwrap(), refusal);
         }
         to_new(message, 0, 3, &[0xEE; 170]).unwrap();
         to_old(message, 2, &[0xEE; 170]).unwrap();
@@ -64,6 +65,7 @@ fn the_old_messages_are_refused_as_printed() {
     for message in [&OLD[25..184], &OLD[253..412]] {
         assert_eq!(check(message).unwrap(), 4);
         assert_eq!(reader::check(message), Err(4));
+        assert_eq!(read_all_lent(message).unwrap(), 4);
         assert_eq!(reader::checksum(&message[4..]), 0x02, "the residue is VERSION");
         assert_eq!(board::why(message, 0), board::Reason { refusal: 0, kind: board::CHECKSUM, value: 0x02 });
     }
@@ -98,7 +100,9 @@ fn every_damaged_byte_is_noticed_alike() {
             for change in [0x01, 0x80, 0xFF] {
                 let mut message = stream[place..place + length].to_vec();
                 message[byte] ^= change;
-                assert_ne!(check(&message).unwrap(), 0, "byte {byte} changed by {change}");
+                let refusal = check(&message).unwrap();
+                assert_ne!(refusal, 0, "byte {byte} changed by {change}");
+                assert_eq!(read_all_lent(&message).unwrap(), refusal, "byte {byte} changed by {change}");
             }
         }
     }

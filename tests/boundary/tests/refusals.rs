@@ -1,6 +1,6 @@
 //! Each refusal of document 01's table by name, in the order in which a call tests them: all other numbers are 0, and no lent byte changes.
 
-use boundary::{board, check, next, read, reasons, set, start, to_new, to_old, Twin};
+use boundary::{board, check, next, read_all_lent, read_header, read_observation, reasons, set, start, to_new, to_old, Twin};
 use reader::{LONGEST, STREAM_BYTES, SUMMED_BYTES};
 
 // Both stand in read-only memory: a call that wrote into a message lent for reading would end the program.
@@ -30,6 +30,21 @@ fn state(held: u64, gap: u64, total: u64, ended: u64) -> board::State {
     board::State { held, gap, total, ended, summed: 0 }
 }
 
+/// At this index nothing is answered but the number.
+fn no_observation(bytes: &[u8], index: usize, number: u64) {
+    assert_eq!(read_observation(bytes, index).unwrap(), number);
+    assert_eq!(board::read_observation(bytes, index), board::Observed { refusal: number, ..Default::default() });
+}
+
+/// Nor for the header, and at no index.
+fn unread(bytes: &[u8], number: u64) {
+    assert_eq!(read_header(bytes).unwrap(), number);
+    assert_eq!(board::read_header(bytes), board::Head { refusal: number, ..Default::default() });
+    for index in [0, 1, 7, 255, usize::MAX] {
+        no_observation(bytes, index, number);
+    }
+}
+
 #[test]
 fn one_to_four() {
     let mut damaged = A;
@@ -40,7 +55,7 @@ fn one_to_four() {
     for (bytes, number) in [(&A[..14], 1), (&b"MAC3"[..], 1), (&other, 2), (&A[..15], 3), (&longer, 3), (&damaged, 4)] {
         let observation = board::Observation { sid: 9, ..Default::default() };
         assert_eq!(check(bytes).unwrap(), number);
-        assert_eq!(read(bytes, 7).unwrap(), number);
+        unread(bytes, number);
         assert_eq!(set(bytes, 7, observation).unwrap(), number);
         assert_eq!(to_new(bytes, 0, 0, &[7; 3]).unwrap(), number);
         assert_eq!(to_old(bytes, 0, &[7; 3]).unwrap(), number);
@@ -51,17 +66,61 @@ fn one_to_four() {
 fn five() {
     let observation = board::Observation::default();
     for message in [&A[..], &B] {
-        assert_eq!(read(message, 0).unwrap(), 0);
-        assert_eq!(board::read(message, 0).present, 0);
-        assert_eq!(read(message, 1).unwrap(), 5);
-        assert_eq!(board::read(message, usize::MAX), board::Reading { refusal: 5, ..Default::default() });
-        assert_eq!(set(message, 0, observation).unwrap(), 5);
+        assert_eq!(read_header(message).unwrap(), 0);
+        for index in [0, 1, 254, 255, 256, usize::MAX] {
+            no_observation(message, index, 5);
+            assert_eq!(set(message, index, observation).unwrap(), 5);
+        }
     }
     let mut message = [0; 40];
     board::start(&mut message, board::Header { form: board::NEW, ..Default::default() }, 1);
     for index in [1, 255, 256, usize::MAX / 24 + 1, usize::MAX] {
-        assert_eq!(read(&message, index).unwrap(), 5);
+        no_observation(&message, index, 5);
         assert_eq!(set(&message, index, observation).unwrap(), 5);
+    }
+}
+
+/// A message of which no field is 0; a SID is one more than its index.
+fn full(form: u64, count: u8) -> Vec<u8> {
+    let mut message = vec![0; LONGEST];
+    let header = board::Header { form, version: 2, signal: 3, tfom: 4, time: 5, offset: 6 };
+    let written = board::start(&mut message, header, count);
+    message.truncate(written.length as usize);
+    for index in 0..count {
+        let sid = u64::from(index) + 1;
+        let observation = board::Observation { sid, condition: 1, cn0: 2, phase: 3, pseudorange: 4, rate: -5, lock: 6 };
+        assert_eq!(board::set(&mut message, index.into(), observation), 0);
+    }
+    message
+}
+
+/// Fields that are not 0 would show a refused call that answers one of them. 4 comes before 5, whatever the count.
+#[test]
+fn one_to_four_of_full_messages() {
+    for (form, count) in [board::OLD, board::NEW].into_iter().flat_map(|form| [1, 2, 255].map(|count| (form, count))) {
+        let mut message = full(form, count);
+        let last = message.len() - 1;
+        unread(&message[..14], 1);
+        unread(&message[..last], 3);
+        message[last] ^= 1;
+        unread(&message, 4);
+        message[0] ^= 1;
+        unread(&message, 2);
+    }
+}
+
+#[test]
+fn five_of_the_longest_messages() {
+    for form in [board::OLD, board::NEW] {
+        let message = full(form, 255);
+        assert_eq!(read_all_lent(&message).unwrap(), 0);
+        let head = board::read_header(&message);
+        assert_eq!((head.refusal, head.count, head.header.form), (0, 255, form));
+        for index in 0..255 {
+            let observed = board::read_observation(&message, index);
+            assert_eq!((observed.refusal, observed.observation.sid), (0, index as u64 + 1));
+        }
+        no_observation(&message, 255, 5);
     }
 }
 

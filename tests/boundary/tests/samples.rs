@@ -1,6 +1,6 @@
 //! Document 01's sample table and its run lines, through the C boundary.
 
-use boundary::{all_reasons, board, check, numbers, recording, run, Twin};
+use boundary::{all_reasons, board, check, numbers, read_all_lent, recording, run, Twin};
 use reader::LONGEST;
 
 const A: [u8; 16] = [0x4D, 0x41, 0x43, 0x32, 0x00, 0x00, 0x00, 0x0E, 0xA0, 0x0C, 0x90, 0x40, 0x7C, 0x10, 0x00, 0x1E];
@@ -22,14 +22,20 @@ fn checks() {
         bytes[place] = byte;
         bytes
     };
-    assert_eq!(check(&[]).unwrap(), 1);
-    assert_eq!(check(&B[..14]).unwrap(), 1);
-    assert_eq!(check(&A).unwrap(), 0);
-    assert_eq!(check(&B).unwrap(), 0);
-    assert_eq!(check(&with(15, 0x1F)).unwrap(), 4);
-    assert_eq!(check(&with(3, 0x4D)).unwrap(), 3);
-    assert_eq!(check(&with(6, 0x01)).unwrap(), 3);
-    assert_eq!(check(&A[..15]).unwrap(), 3);
+    for (bytes, number) in
+        [(&[][..], 1), (&B[..14], 1), (&A, 0), (&B, 0), (&with(15, 0x1F), 4), (&with(3, 0x4D), 3), (&with(6, 0x01), 3), (&A[..15], 3)]
+    {
+        assert_eq!(check(bytes).unwrap(), number);
+        assert_eq!(read_all_lent(bytes).unwrap(), number);
+    }
+}
+
+#[test]
+fn headers() {
+    let header = board::Header { time: 245_370_000, offset: 0x407C_1000, ..Default::default() };
+    let head = |header| board::Head { refusal: 0, count: 0, header };
+    assert_eq!(board::read_header(&A), head(board::Header { form: board::NEW, ..header }));
+    assert_eq!(board::read_header(&B), head(board::Header { form: board::OLD, version: 2, ..header }));
 }
 
 #[test]
@@ -125,7 +131,7 @@ fn ranges_and_rates() {
         assert_eq!(board::start(&mut message, header, 1).length, 40);
         message[31..35].copy_from_slice(&bytes);
         message[39] = reader::checksum(&message[4..39]);
-        assert_eq!(board::read(&message, 0).observation.rate, rate);
+        assert_eq!(board::read_observation(&message, 0).observation.rate, rate);
         assert_eq!(board::plot_row(0, rate as i32).rate, rate as f64 / 10000.0);
     }
 }

@@ -27,7 +27,7 @@ fn named(name: &str) {
 
 #[test]
 fn one_message() {
-    ["check", "read", "start", "set", "to_new", "to_old"].into_iter().for_each(named);
+    ["check", "read_header", "read_observation", "read_all", "start", "set", "to_new", "to_old"].into_iter().for_each(named);
 }
 
 #[test]

@@ -1,7 +1,8 @@
 //! The streams are hostile enough: readers with the slips that people make are told from the right one by them. A slip that went unnoticed here would
 //! go unnoticed behind the C boundary too.
 
-use reader::{check, checksum, divide, feed, finish, message_at, reasons, work, Answer, Form, Reason, State, LONGEST};
+use reader::{check, checksum, divide, feed, finish, message_at, read_header, read_observation, reasons, work};
+use reader::{Answer, Form, Head, Observation, Reason, Refusal, State, LONGEST};
 use streams::{cuts, stream, Random};
 
 const SEED: u64 = 20_041;
@@ -277,4 +278,78 @@ fn summing_an_unfinished_message() {
         }
     };
     assert_noticed("summing an unfinished message", noticed_count(|stream, pieces| run(stream, pieces, sum).1));
+}
+
+/// What the starts of a stream claim, where all of it is there: messages, and what a wrong checksum alone tells from them.
+fn claims(stream: &[u8]) -> impl Iterator<Item = &[u8]> {
+    (0..stream.len()).filter_map(|position| claim(&stream[position..]).map(|length| &stream[position..position + length]))
+}
+
+/// The number of observations that a claim's length has room for.
+fn room(whole: &[u8]) -> usize {
+    (whole.len() - 15) / 24
+}
+
+/// The same bytes with a right checksum: what a reader that does not check takes them for.
+fn sealed(whole: &[u8]) -> Vec<u8> {
+    let covered = &whole[..whole.len() - 1];
+    [covered, &[checksum(&covered[4..])]].concat()
+}
+
+/// The number of streams in which a slip reads the header of a claim otherwise.
+fn noticed_header(slip: fn(&[u8]) -> Result<Head, Refusal>) -> usize {
+    streams_with(|stream, _| claims(stream).any(|whole| slip(whole) != read_header(whole)))
+}
+
+/// The number of streams in which a slip reads an observation of a claim otherwise, or the first index that has none.
+fn noticed_observation(slip: impl Fn(&[u8], usize) -> Result<Observation, Refusal>) -> usize {
+    let differs = |whole: &[u8]| (0..=room(whole)).any(|index| slip(whole, index) != read_observation(whole, index));
+    streams_with(|stream, _| claims(stream).any(differs))
+}
+
+#[test]
+fn reading_without_a_check() {
+    assert_noticed("a header without a check", noticed_header(|whole| read_header(&sealed(whole))));
+    assert_noticed("an observation without a check", noticed_observation(|whole, index| read_observation(&sealed(whole), index)));
+}
+
+#[test]
+fn the_count_at_the_place_of_the_other_form() {
+    let slip = |whole: &[u8]| {
+        let head = read_header(whole)?;
+        let other = if head.header.form() == Form::Old { Form::New } else { Form::Old };
+        Ok(Head { count: whole[other.count_place()], ..head })
+    };
+    assert_noticed("the count at the other form's place", noticed_header(slip));
+}
+
+#[test]
+fn the_index_before_the_checksum() {
+    let slip = |whole: &[u8], index| if index >= room(whole) { Err(5) } else { read_observation(whole, index) };
+    assert_noticed("5 before 4", noticed_observation(slip));
+}
+
+/// The number of streams in which a reader is noticed that answers zeros, and not 5, of the indexes that it takes.
+fn noticed_index(takes: fn(usize) -> bool) -> usize {
+    noticed_observation(|whole, index| match read_observation(whole, index) {
+        Err(5) if takes(index) => Ok(Observation::default()),
+        answer => answer,
+    })
+}
+
+#[test]
+fn an_index_equal_to_the_count() {
+    assert_noticed("an index equal to the count", noticed_index(|index| index > 0));
+}
+
+/// As reading was before E5.
+#[test]
+fn the_first_index_of_a_message_without_observations() {
+    assert_noticed("index 0 of a message without observations", noticed_index(|index| index == 0));
+}
+
+#[test]
+fn the_observation_behind_the_one_asked_for() {
+    let slip = |whole: &[u8], index| read_observation(whole, if index + 1 < room(whole) { index + 1 } else { index });
+    assert_noticed("the observation one further", noticed_observation(slip));
 }

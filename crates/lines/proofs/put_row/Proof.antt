@@ -1,15 +1,15 @@
 -- `lines::put_row` meets its contract. Assumes nothing.
+use mathlib.Core.Path.{_∙_, ap}
+use mir.Syntax.{w32}
+use mir.ValLaws.{toZ-ofZ}
+use Rattle.units.specs.Units.{millisIn}
+use Rattle.text.proofs.PutLaws.{puts-join}
 use borrow.Author.Needs.{needs}
 use Rattle.lines.proofs.put_row.Statement.{statement}
 use Rattle.lines.proofs.put_row.Tie as tie
-use Rattle.text.proofs.PutLaws.{puts-join}
-use mir.Syntax.{w32}
-use mir.ValLaws.{toZ-ofZ}
-use mathlib.Core.Path.{_∙_, ap}
-use Rattle.units.specs.Units.{millisIn}
 
-put-head-requires : tie.Need-put-head-requires
-put-head-requires c κs = search needs
+put-all-requires : tie.Need-put-all-requires
+put-all-requires c κs = search needs
 
 put-range-requires : tie.Need-put-range-requires
 put-range-requires c κs = search needs
@@ -37,17 +37,17 @@ same-length c = search needs
 
 returns : tie.Need-returns
 returns c =
-    let rate = c .before .before .before .before .before .before .before .before .before .before .before .before .before .before .before .before .before .before .before .before .before .before .before .before .before .before .before .before .before .args .observed .rate in
+    let rate = c .before .before .before .before .before .before .before .before .before .before .before .before .before .before .before .before .before .before .before .before .before .before .before .before .before .before .before .before .before .before .args .observation .rate in
     let fits = c .before .before .before .before .before .before .before .before .before .before .before .before .before .struct-told .given .1 .1 .1 .1 .1 .0 in
     let shown = rw (toZ-ofZ w32 rate (record { sfits = fits .1 })) at (c .before .before .before .before .before .before .before .before .before .before .before .before .put-hertz .ensures) in
     let millis = c .before .before .before .number .ensures ∙ ap millisIn (c .before .before .before .before .since-lock .ensures) in
-    rw (← millis) (puts-join (c .before .before .before .before .before .before .before .before .before .before .before .before .before .before .before .before .before .before .before .before .before .before .before .before .before .put-head .ensures) (puts-join (c .before .before .before .before .before .before .before .before .before .before .before .before .before .before .before .before .before .before .before .before .before .put-range .ensures) (puts-join (c .before .before .before .before .before .before .before .before .before .before .before .before .before .before .before .before .before .put-shown .ensures) (puts-join shown (puts-join (c .before .before .before .before .before .before .before .before .put .ensures) (c .before .before .put-number .ensures))))))
+    rw (← millis) (puts-join (c .before .before .before .before .before .before .before .before .before .before .before .before .before .before .before .before .before .before .before .before .before .before .before .before .before .put-all .ensures) (puts-join (c .before .before .before .before .before .before .before .before .before .before .before .before .before .before .before .before .before .before .before .before .before .put-range .ensures) (puts-join (c .before .before .before .before .before .before .before .before .before .before .before .before .before .before .before .before .before .put-shown .ensures) (puts-join shown (puts-join (c .before .before .before .before .before .before .before .before .put .ensures) (c .before .before .put-number .ensures))))))
 
 pub put-row-spec : {M : Type 1} → statement M
 put-row-spec =
     tie.close
     (tie.spec
-    put-head-requires
+    put-all-requires
     put-range-requires
     put-shown-requires
     put-hertz-requires
