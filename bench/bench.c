@@ -1,11 +1,14 @@
-/* Measures the library beside the careful reader in C: `bench FOLDER LISTING`. FOLDER has the listing over that reader as `listing`; LISTING is the
- * library's listing program.
+/* Measures the library and its programs beside the careful reader in C and the programs over it: `bench FOLDER`. FOLDER has all the programs, as
+ * programs.h names them.
  *
- * It first makes sure that both give the same messages and gaps. Then both run by turns, in short rounds, and of each the best CPU time counts. It
- * ends with 1 where a target is missed, with 2 where nothing can be measured.
+ * It first makes sure that both give the same messages and gaps, and print the same bytes. It ends with 1 where a target is missed, with 2 where
+ * nothing can be measured.
  */
 #include "cablesound.h"
+#include "measure.h"
+#include "observations.h"
 #include "process.h"
+#include "programs.h"
 #include "reader.h"
 #include "records.h"
 #include "streams.h"
@@ -14,31 +17,30 @@
 #include <stdio.h>
 #include <stdlib.h>
 
-/* A row takes so many rounds and so many seconds at least: a shared machine has slow seconds, and both need their turns in a fast one. */
-static const int ROUNDS = 9;
-static const double SECONDS = 1.5;
-
 /* A stream; the bytes that are fed, few enough for the cache, so that the readers are measured and not the memory; the bytes that are listed, enough
- * for the start of a program not to count; and how many times as fast as the C the library has to be. */
+ * for the start of a program not to count; and how many times as fast as the C at each level the listing has to be, 0 where that is not judged. */
 typedef struct {
     const char *name;
     void (*make)(uint8_t *, size_t);
     size_t fed, listed;
-    double target;
+    double targets[LEVELS];
     uint8_t *bytes;
 } stream;
 
-/* Mixed is for comparing what both readers give, and not measured. */
+/* Mixed is for comparing what both give, and not measured. */
 static stream streams[] = {
-    {"clean", stream_clean, 1 << 20, 32 << 20, 1.3, NULL},
-    {"noise", stream_noise, 1 << 20, 32 << 20, 1.0, NULL},
-    {"hostile", stream_hostile, 128 << 10, 256 << 10, 10, NULL},
-    {"mixed", stream_mixed, 1 << 20, 1 << 20, 0, NULL},
+    {"clean", stream_clean, 1 << 20, 32 << 20, {1.3, 1.15}, NULL},
+    {"noise", stream_noise, 1 << 20, 32 << 20, {1.0, 1.15}, NULL},
+    {"hostile", stream_hostile, 128 << 10, 256 << 10, {10, 0}, NULL},
+    {"mixed", stream_mixed, 1 << 20, 1 << 20, {0, 0}, NULL},
 };
 enum { MEASURED = 3, ALL = 4 };
 
 /* The most nanoseconds that a feed of one byte may take. */
 static const double FEED_TARGET = 150;
+
+/* What gcc was told for this program, and the reader in C with it. */
+static const char OWN_LEVEL[] = "-O2";
 
 /* What a reader gave, and the bytes that the library's stream reader summed. Where `whole` is not 0 the digest covers every byte, else little more
  * than the lengths, so that it costs next to nothing. */
@@ -57,11 +59,6 @@ typedef struct {
     run *library;
 } way;
 
-/* The best seconds of the library and of the C. */
-typedef struct {
-    double library, c;
-} times;
-
 static void note(tally *t, const uint8_t *message, size_t length, uint64_t gap) {
     const uint64_t prime = UINT64_C(0x100000001B3);
     t->messages++;
@@ -70,11 +67,6 @@ static void note(tally *t, const uint8_t *message, size_t length, uint64_t gap) 
     for (size_t i = 0; t->whole && i < length; i++) {
         t->digest = (t->digest ^ message[i]) * prime;
     }
-}
-
-static void stop(const char *why) {
-    fprintf(stderr, "bench: %s\n", why);
-    exit(2);
 }
 
 /* ---- both readers */
@@ -88,7 +80,7 @@ static void run_library(const uint8_t *bytes, size_t length, size_t piece, tally
         while (at < end) {
             answer = cs_feed(&state, bytes + at, end - at, window, sizeof window, output, sizeof output);
             if (answer.refusal != 0) {
-                stop("the library refuses a feed");
+                measure_stop("the library refuses a feed");
             }
             t->calls++;
             at += (size_t)answer.taken;
@@ -152,11 +144,9 @@ static void compare(const stream *s, const way *w) {
     w->library(s->bytes, s->fed, w->piece, &library);
     run_c(s->bytes, s->fed, w->piece, &c);
     if (library.messages != c.messages || library.gaps != c.gaps || library.digest != c.digest) {
-        fprintf(stderr,
-                "bench: %s (%s): the library gives %" PRIu64 " messages, %" PRIu64 " gap bytes, digest %016" PRIx64 ", the C %" PRIu64 ", %" PRIu64
-                ", %016" PRIx64 "\n",
-                s->name, w->name, library.messages, library.gaps, library.digest, c.messages, c.gaps, c.digest);
-        exit(2);
+        measure_stop("%s (%s): the library gives %" PRIu64 " messages, %" PRIu64 " gap bytes, digest %016" PRIx64 ", the C %" PRIu64 ", %" PRIu64
+                     ", %016" PRIx64,
+                     s->name, w->name, library.messages, library.gaps, library.digest, c.messages, c.gaps, c.digest);
     }
 }
 
@@ -169,28 +159,22 @@ static double seconds_of(run *reader, const stream *s, const way *w, uint64_t *c
     return taken;
 }
 
-static double lesser(double a, double b) {
-    return a < b ? a : b;
-}
-
-/* Prints a row without its end; answers the ratio. */
-static double print_row(const char *name, const char *how, size_t length, times best) {
-    double ratio = best.c / best.library;
-    printf("%-8s %-8s %10.1f %10.1f %8.2f", name, how, (double)length / best.library / 1e6, (double)length / best.c / 1e6, ratio);
-    return ratio;
+/* Prints a row without its end. */
+static void print_row(const char *name, const char *how, const char *level, size_t length, double library, double c) {
+    double bytes = (double)length / 1e6;
+    printf("%-8s %-8s %5s %10.1f %10.1f %8.2f", name, how, level, bytes / library, bytes / c, c / library);
 }
 
 /* Prints the row; answers the nanoseconds of one call of the library. */
 static double measure(const stream *s, const way *w) {
-    times best = {1e9, 1e9};
+    double library = 1e9, c = 1e9, begin = process_own_seconds();
     uint64_t calls = 0, none;
-    double begin = process_own_seconds();
-    for (int round = 0; round < ROUNDS || process_own_seconds() - begin < SECONDS; round++) {
-        best.library = lesser(best.library, seconds_of(w->library, s, w, &calls));
-        best.c = lesser(best.c, seconds_of(run_c, s, w, &none));
+    for (int round = 0; measure_due(round, process_own_seconds() - begin, 2); round++) {
+        library = measure_best(library, seconds_of(w->library, s, w, &calls));
+        c = measure_best(c, seconds_of(run_c, s, w, &none));
     }
-    double call = best.library * 1e9 / (double)calls;
-    print_row(s->name, w->name, s->fed, best);
+    double call = library * 1e9 / (double)calls;
+    print_row(s->name, w->name, OWN_LEVEL, s->fed, library, c);
     printf(" %12.1f\n", call);
     return call;
 }
@@ -206,132 +190,97 @@ static void print_summed(const stream *s) {
     printf("%-8s %10zu %12" PRIu64 " %12.2f %12.2f\n", s->name, s->fed, t.summed, (double)t.summed / fed, most / fed);
 }
 
-/* ---- the listing */
-
-typedef struct {
-    char text[512];
-} path;
-
-static path path_in(const char *folder, const char *name, const char *ending) {
-    path p;
-    int length = snprintf(p.text, sizeof p.text, "%s/%s%s", folder, name, ending);
-    if (length < 0 || (size_t)length >= sizeof p.text) {
-        stop("the folder's name is too long");
-    }
-    return p;
-}
-
-static void write_file(const char *name, const stream *s) {
-    FILE *file = fopen(name, "wb");
-    if (file == NULL || fwrite(s->bytes, 1, s->listed, file) != s->listed || fclose(file) != 0) {
-        stop("a stream cannot be written into the folder");
-    }
-}
-
-static double listing_seconds(const char *program, const char *input, const char *output) {
-    double taken = process_seconds(program, input, output);
-    if (taken < 0) {
-        fprintf(stderr, "bench: %s cannot be run, or fails, on %s\n", program, input);
-        exit(2);
-    }
-    return taken;
-}
-
-/* Leaves the stream in the folder, and what both programs list of it. */
-static void compare_listings(const stream *s, const char *folder, const char *program) {
-    path input = path_in(folder, s->name, ".bin"), given = path_in(folder, s->name, ".library"), wanted = path_in(folder, s->name, ".c");
-    write_file(input.text, s);
-    listing_seconds(program, input.text, given.text);
-    listing_seconds(path_in(folder, "listing", "").text, input.text, wanted.text);
-    if (!process_same(given.text, wanted.text)) {
-        fprintf(stderr, "bench: the listings of %s differ: compare %s and %s\n", s->name, given.text, wanted.text);
-        exit(2);
-    }
-}
-
-/* Prints the row; answers the ratio. What is listed is thrown away: the programs are measured, and not the disk. */
-static double measure_listing(const stream *s, const char *folder, const char *program) {
-    path input = path_in(folder, s->name, ".bin"), c_program = path_in(folder, "listing", "");
-    times best = {1e9, 1e9};
-    double spent = 0;
-    for (int round = 0; round < ROUNDS || spent < SECONDS; round++) {
-        double library = listing_seconds(program, input.text, "/dev/null");
-        double c = listing_seconds(c_program.text, input.text, "/dev/null");
-        best = (times){lesser(best.library, library), lesser(best.c, c)};
-        spent += library + c;
-    }
-    double ratio = print_row(s->name, "listing", s->listed, best);
-    printf("\n");
-    return ratio;
-}
-
 /* ---- all of it */
 
 static void make_streams(void) {
     for (int i = 0; i < ALL; i++) {
         streams[i].bytes = malloc(streams[i].listed);
         if (streams[i].bytes == NULL) {
-            stop("no memory for the streams");
+            measure_stop("no memory for the streams");
         }
         streams[i].make(streams[i].bytes, streams[i].listed);
     }
 }
 
-static void compare_all(const char *folder, const char *program) {
+static void compare_all(const char *folder) {
     for (int i = 0; i < ALL; i++) {
         for (int j = 0; j < WAYS; j++) {
             compare(&streams[i], &ways[j]);
         }
-        compare_listings(&streams[i], folder, program);
+        programs_keep(folder, streams[i].name, streams[i].bytes, streams[i].listed);
+        programs_compare(folder, "listing", streams[i].name);
     }
+    programs_compare(folder, "rows", "mixed");
+    observations_compare(folder);
     if (!records_agree()) {
-        stop("the library and the C differ in a record");
+        measure_stop("the library and the C differ in a record");
     }
 }
 
 /* Prints the rows of a stream; answers the nanoseconds of a feed of one byte. */
-static double measure_all(const stream *s) {
+static double measure_stream(const stream *s, const char *folder, programs_times *listing) {
     double feed = 0;
     for (int j = 0; j < WAYS; j++) {
         double call = measure(s, &ways[j]);
         feed = ways[j].piece == 1 ? call : feed;
     }
+    programs_measure(folder, "listing", &s->name, 1, listing);
+    for (int level = 0; level < LEVELS; level++) {
+        print_row(s->name, "listing", programs_levels[level], s->listed, listing->library, listing->c[level]);
+        printf("\n");
+    }
     return feed;
 }
 
-/* Says whether the listing of a stream reaches its target; answers 1 where it is missed. */
-static int judge(const stream *s, double listing) {
-    int missed = listing < s->target;
-    printf("%s, listed: to reach %.1f of the C, %.2f, %s\n", s->name, s->target, listing, missed ? "MISSED" : "reached");
+/* Prints the first table; answers the nanoseconds of a feed of one byte, in the worst stream. */
+static double measure_streams(const char *folder, programs_times *listings) {
+    double worst = 0;
+    printf("%-8s %-8s %5s %10s %10s %8s %12s\n", "stream", "pieces", "C at", "MB/s", "C's MB/s", "ratio", "ns a call");
+    for (int i = 0; i < MEASURED; i++) {
+        double feed = measure_stream(&streams[i], folder, &listings[i]);
+        worst = feed > worst ? feed : worst;
+    }
+    return worst;
+}
+
+/* Says which targets of the listing are reached; answers 1 where one is missed. */
+static int judge_listings(const programs_times *listings) {
+    int missed = 0;
+    for (int level = 0; level < LEVELS; level++) {
+        for (int i = 0; i < MEASURED; i++) {
+            if (streams[i].targets[level] > 0) {
+                missed |= programs_judge(streams[i].name, "listed", &listings[i], level, streams[i].targets[level]);
+            }
+        }
+    }
+    return missed;
+}
+
+static int judge_feed(double feed) {
+    int missed = feed >= FEED_TARGET;
+    printf("a feed of one byte, to stay under %.0f ns: %.1f ns, %s\n", FEED_TARGET, feed, missed ? "MISSED" : "reached");
     return missed;
 }
 
 int main(int argc, char **argv) {
-    if (argc != 3) {
-        stop("it is run as bench FOLDER LISTING");
+    if (argc != 2) {
+        measure_stop("it is run as bench FOLDER");
     }
-    const char *folder = argv[1], *program = argv[2];
-    double listings[MEASURED], feed = 0;
-    int missed = 0;
+    const char *folder = argv[1];
+    programs_times listings[MEASURED];
     make_streams();
-    compare_all(folder, program);
-    printf("%-8s %-8s %10s %10s %8s %12s\n", "stream", "pieces", "MB/s", "C's MB/s", "ratio", "ns a call");
-    for (int i = 0; i < MEASURED; i++) {
-        double one = measure_all(&streams[i]);
-        feed = one > feed ? one : feed;
-        listings[i] = measure_listing(&streams[i], folder, program);
-    }
+    compare_all(folder);
+    double feed = measure_streams(folder, listings);
     printf("%-8s %10s %12s %12s %12s\n", "stream", "bytes fed", "bytes summed", "a byte fed", "at most");
     for (int i = 0; i < ALL; i++) {
         print_summed(&streams[i]);
     }
     if (!records_measure()) {
-        stop("the library and the C come to different numbers over the records");
+        measure_stop("the library and the C come to different numbers over the records");
     }
-    for (int i = 0; i < MEASURED; i++) {
-        missed |= judge(&streams[i], listings[i]);
-    }
-    missed |= feed >= FEED_TARGET;
-    printf("a feed of one byte, to stay under %.0f ns: %.1f ns, %s\n", FEED_TARGET, feed, feed >= FEED_TARGET ? "MISSED" : "reached");
+    observations_measure(folder);
+    int missed = judge_listings(listings);
+    missed |= judge_feed(feed);
+    missed |= observations_judge();
     return missed;
 }

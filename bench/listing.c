@@ -1,5 +1,5 @@
 /* The listing over the careful reader in C: standard input to a line a message, in large blocks both ways. */
-#include "reader.h"
+#include "input.h"
 
 #include <string.h>
 #include <unistd.h>
@@ -7,8 +7,7 @@
 /* The longest line is the last one, with three numbers of up to 20 digits. */
 enum { BLOCK = 65536, LINE = 96 };
 
-static reader input;
-static uint8_t block[BLOCK];
+static input recording;
 static char text[BLOCK];
 static size_t full;
 static uint64_t place, messages, gaps;
@@ -52,59 +51,41 @@ static void put_number(uint64_t number, char behind) {
     text[full++] = behind;
 }
 
-static uint32_t word(const uint8_t *b) {
-    return (uint32_t)b[0] << 24 | (uint32_t)b[1] << 16 | (uint32_t)b[2] << 8 | b[3];
-}
-
 static void put_line(const reader_message *m) {
     if (full > BLOCK - LINE) {
         flush();
     }
-    int new = m->bytes[3] == '2';
-    size_t count_at = new ? 6 : 5;
+    input_header head = input_head(m);
     put_number(place + m->gap, ' ');
     put_number(m->length, ' ');
-    put_text(new ? "v2 " : "v1 ", 3);
-    put_number(m->bytes[count_at], ' ');
-    put_number(word(m->bytes + count_at + 1), '\n');
+    put_text(head.new ? "v2 " : "v1 ", 3);
+    put_number(head.count, ' ');
+    put_number(head.time, '\n');
     place += m->gap + m->length;
     messages++;
     gaps += m->gap;
 }
 
-static void put_messages(void) {
-    reader_message message;
-    while (reader_next(&input, &message)) {
-        put_line(&message);
-    }
-}
-
 static void put_end(void) {
-    gaps += input.gap;
+    uint64_t gap = recording.reader.gap;
     if (full > BLOCK - LINE) {
         flush();
     }
     put_text("end ", 4);
-    put_number(place + input.gap, ' ');
+    put_number(place + gap, ' ');
     put_text("messages ", 9);
     put_number(messages, ' ');
     put_text("gap ", 4);
-    put_number(gaps, '\n');
+    put_number(gaps + gap, '\n');
     flush();
 }
 
 int main(void) {
-    ssize_t got;
-    reader_open(&input);
+    reader_message message;
     put_text("at bytes form obs time\n", 23);
-    while ((got = read(STDIN_FILENO, block, sizeof block)) > 0) {
-        for (size_t at = 0; at < (size_t)got;) {
-            at += reader_put(&input, block + at, (size_t)got - at);
-            put_messages();
-        }
+    for (input_open(&recording); input_next(&recording, &message);) {
+        put_line(&message);
     }
-    reader_end(&input);
-    put_messages();
     put_end();
-    return got < 0 || failed;
+    return recording.failed || failed;
 }

@@ -20,11 +20,14 @@ static void fill(uint8_t *bytes, size_t length, uint64_t *seed) {
     }
 }
 
-/* A whole message, of random fields; answers its length. */
-static size_t make_message(uint8_t *bytes, int new, uint8_t count, uint64_t *seed) {
-    size_t length = (new ? 16 : 15) + 24 * (size_t)count;
+static size_t length_of(int new, uint8_t count) {
+    return (new ? 16 : 15) + 24 * (size_t)count;
+}
+
+/* Makes a message of what stands there, by its sync string, its count and its checksum; answers its length. */
+static size_t seal(uint8_t *bytes, int new, uint8_t count) {
+    size_t length = length_of(new, count);
     uint8_t sum = 0;
-    fill(bytes, length, seed);
     memcpy(bytes, new ? "MAC2" : "MACM", 4);
     bytes[new ? 6 : 5] = count;
     for (size_t i = 4; i < length - 1; i++) {
@@ -32,6 +35,12 @@ static size_t make_message(uint8_t *bytes, int new, uint8_t count, uint64_t *see
     }
     bytes[length - 1] = sum;
     return length;
+}
+
+/* A whole message, of random fields; answers its length. */
+static size_t make_message(uint8_t *bytes, int new, uint8_t count, uint64_t *seed) {
+    fill(bytes, length_of(new, count), seed);
+    return seal(bytes, new, count);
 }
 
 /* As much of a part as there is room for; answers where the next part goes. */
@@ -80,4 +89,68 @@ void stream_mixed(uint8_t *bytes, size_t length) {
         }
         at = add(bytes, length, at, part, size);
     }
+}
+
+/* ---- what a receiver in flight sends */
+
+/* A field of so many bytes; answers where the next one goes. */
+static uint8_t *put(uint8_t *field, size_t bytes, uint64_t number) {
+    for (size_t i = bytes; i > 0; i--) {
+        field[i - 1] = (uint8_t)number;
+        number >>= 8;
+    }
+    return field + bytes;
+}
+
+static uint64_t between(uint64_t *seed, uint64_t least, uint64_t most) {
+    return least + next_random(seed) % (most - least + 1);
+}
+
+/* The bits of a double of 10^6 up to 2 * 10^8 cycles, with every bit of its fraction, and of either sign. */
+static uint64_t make_phase(uint64_t *seed) {
+    uint64_t random = next_random(seed), bits;
+    double cycles = 1e6 + 199e6 * ((double)(random >> 11) / 9007199254740992.0);
+    memcpy(&bits, &cycles, sizeof bits);
+    return bits | random << 63;
+}
+
+/* All is valid, save the phase in one observation of 16; the polarity is one of the three that are defined. */
+static uint64_t make_condition(uint64_t *seed) {
+    static const uint64_t polarities[] = {0, 5, 7};
+    return (between(seed, 1, 16) == 16 ? 0x3B : 0x3F) | polarities[between(seed, 0, 2)] << 8;
+}
+
+/* SID, CONDITION, C/N0, PHASE, PR of 20,000 up to 25,000 km, RATE of 5,000 Hz either way, lock of up to an hour. */
+static void make_observation(uint8_t *at, uint64_t *seed) {
+    at = put(at, 1, between(seed, 1, 32));
+    at = put(at, 2, make_condition(seed));
+    at = put(at, 1, between(seed, 30, 50));
+    at = put(at, 8, make_phase(seed));
+    at = put(at, 4, between(seed, 2001384572, 2501730714));
+    at = put(at, 4, between(seed, 0, 100000000) - 50000000);
+    put(at, 4, between(seed, 0, 1800000));
+}
+
+/* Ten messages a second, TYPE 0, with the TFOM, VERSION and OFFSET of the sample recording. */
+static void make_flight(uint8_t *bytes, size_t length, uint8_t count) {
+    uint8_t message[LONGEST];
+    uint64_t seed = 4, time = 245370000;
+    int new = 1;
+    for (size_t at = 0; at < length; new = !new) {
+        uint8_t *field = new ? put(message + 4, 3, 0x000300) : put(message + 4, 2, 0x0200);
+        field = put(put(field, 4, time), 4, 0x407C1000);
+        for (size_t i = 0; i < count; i++) {
+            make_observation(field + 24 * i, &seed);
+        }
+        time += 100;
+        at = add(bytes, length, at, message, seal(message, new, count));
+    }
+}
+
+void stream_usual(uint8_t *bytes, size_t length) {
+    make_flight(bytes, length, 7);
+}
+
+void stream_full(uint8_t *bytes, size_t length) {
+    make_flight(bytes, length, 255);
 }

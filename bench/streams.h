@@ -17,4 +17,10 @@ void stream_hostile(uint8_t *bytes, size_t length);
 /* What a bad link leaves: messages of all counts, some damaged, some cut short, with noise and parts of sync strings between them. */
 void stream_mixed(uint8_t *bytes, size_t length);
 
+/* What a receiver in flight sends: as clean, but with numbers of the size that they have there. */
+void stream_usual(uint8_t *bytes, size_t length);
+
+/* The same with 255 observations a message, the most that it can have. */
+void stream_full(uint8_t *bytes, size_t length);
+
 #endif

@@ -170,31 +170,39 @@ fuzz() {
     cd tests && await setsid $cargo run --offline --locked --quiet --bin fuzz -- "$@"
 }
 
-# NAME FILE...: a program of bench/.
+# NAME WORD...: a program of bench/, of these files and with these options.
 compile() {
     name=$1
     shift
-    $gcc -std=c11 -O2 -Wall -Wextra -Werror -Ibuild "$@" -o "target/bench/$name" || fail "bench: $name does not compile"
+    $gcc -std=c11 -Wall -Wextra -Werror -Ibuild "$@" -o "target/bench/compiled/$name" || fail "bench: $name does not compile"
 }
 
 # PROGRAM SCRIPT: leaves a script that runs the program. A process under the emulator can start one of this machine's own alone.
 emulated() { printf '#!/bin/sh\nexec %s "%s"\n' "$emulator" "$PWD/$1" >"$2" && chmod +x "$2" || exit 2; }
 
+# PROGRAM: puts it, or a script that runs it, where the bench looks for it.
+offer() {
+    place=target/bench/$(basename "$1")
+    rm -f "$place" || exit 2
+    if [ -n "$emulator" ]; then emulated "$1" "$place"; else cp "$1" "$place" || exit 2; fi
+}
+
 bench() {
-    say "builds the library, its listing program and the reader in C, then measures for some 30 seconds"
+    say "builds the library, its programs and those in C, then measures for the better part of a minute"
     need_emulation
     build
-    mkdir -p target/bench || exit 2
-    compile listing bench/listing.c bench/reader.c
-    compile bench bench/bench.c bench/process.c bench/reader.c bench/record.c bench/records.c bench/streams.c build/libcablesound.a
-    listing=target/bin/listing
-    if [ -n "$emulator" ]; then
-        say "an emulator runs both: the times, and a target that is missed, say nothing of x86-64"
-        emulated "$listing" target/bench/library
-        mv target/bench/listing target/bench/careful && emulated target/bench/careful target/bench/listing
-        listing=target/bench/library
-    fi
-    await setsid $emulator target/bench/bench target/bench "$listing"
+    mkdir -p target/bench/compiled || exit 2
+    for program in listing rows; do
+        offer "target/bin/$program"
+        for level in -O2 -O3; do
+            compile "$program$level" "$level" "bench/$program.c" bench/input.c bench/reader.c
+            offer "target/bench/compiled/$program$level"
+        done
+    done
+    compile bench -O2 bench/bench.c bench/measure.c bench/observations.c bench/process.c bench/programs.c bench/reader.c bench/record.c bench/records.c \
+        bench/streams.c build/libcablesound.a
+    [ -z "$emulator" ] || say "an emulator runs all of it: the times, and a target that is missed, say nothing of x86-64"
+    await setsid $emulator target/bench/compiled/bench target/bench
 }
 
 # Keeps what rt prints, and its tally back.
