@@ -8,7 +8,7 @@ ghost use lib.IntN.{negsuc};
 ghost use lib.ListN.{length, take, replicate};
 ghost use lib.Signed.{mag};
 ghost use Rattle.octets.specs.Begins.{common, fit, begins};
-ghost use Rattle.octets.specs.Checksum.{summedOf};
+ghost use Rattle.octets.specs.Checksum.{checksumFrom, checksumOf, summedOf};
 ghost use Rattle.octets.specs.Numbers.{number, bytesOf};
 ghost use Rattle.octets.specs.Parts.{part, over};
 ghost use Rattle.octets.specs.Signed.{half, signedOf, rawOf};
@@ -55,18 +55,57 @@ fn sum_blocks(s: &[u8]) -> Summed
     Summed { value, count }
 }
 
-// The exclusive or of every byte, each counted as it goes through.
-pub fn checksum(s: &[u8]) -> Summed
+// The bytes from `at` on, as many as there are lanes, each into a lane of its own; how many went in. No lane waits for another, so that all of them are
+// one step of a vector.
+fn fold(lanes: &mut [u8], s: &[u8], at: usize) -> usize
+    requires { ⌜ at + length (now lanes) ≤ length (now s) ⌝ }
+    ensures { λ r. ⌜ (r ≡ length (now (lanes .entry))) × (checksumOf (now (lanes .exit)) ≡ checksumFrom (checksumOf (now (lanes .entry))) (part at r (now (s .entry)))) ⌝ }
+{
+    let mut count = 0;
+    while count < lanes.len() {
+        lanes[count] = lanes[count] ^ s[at + count];
+        count += 1;
+    }
+    count
+}
+
+// The bytes that are left, one by one.
+fn sum_rest(s: &[u8], before: Summed) -> Summed
+    requires { ⌜ SummedTo (now s) (before .value) (before .count) ⌝ }
     ensures { λ r. ⌜ r ≡ summedOf (now (s .entry)) ⌝ }
 {
-    let blocks = sum_blocks(s);
-    let mut value = blocks.value;
-    let mut count = blocks.count;
+    let mut value = before.value;
+    let mut count = before.count;
     while count < s.len() {
         value = value ^ s[count];
         count += 1;
     }
     Summed { value, count }
+}
+
+// Of what the blocks leave, 16 bytes at a time as long as there are so many. The lanes are made one value once, behind the loop: that costs more than a
+// turn of it.
+fn sum_lanes(s: &[u8], before: Summed) -> Summed
+    requires { ⌜ SummedTo (now s) (before .value) (before .count) ⌝ }
+    ensures { λ r. ⌜ SummedTo (now (s .entry)) (r .value) (r .count) ⌝ }
+{
+    let mut lanes = [0u8; 16];
+    let mut count = before.count;
+    while 16 <= s.len() - count {
+        count += fold(&mut lanes, s, count);
+    }
+    let sum = sum_rest(&lanes, Summed { value: 0, count: 0 });
+    Summed {
+        value: before.value ^ sum.value,
+        count,
+    }
+}
+
+// The exclusive or of every byte, each counted as it goes through.
+pub fn checksum(s: &[u8]) -> Summed
+    ensures { λ r. ⌜ r ≡ summedOf (now (s .entry)) ⌝ }
+{
+    sum_rest(s, sum_lanes(s, sum_blocks(s)))
 }
 
 // ---- how a slice begins

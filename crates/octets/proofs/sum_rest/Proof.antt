@@ -1,11 +1,11 @@
--- `octets::checksum` meets its contract: the loop carries the checksum of the bytes passed. Assumes nothing.
+-- `octets::sum_rest` meets its contract: the loop carries the checksum of the bytes passed. Assumes nothing.
 use Prim.Native.Nat.{_-_}
 use lib.ListN.{length}
 use Rattle.octets.specs.Steps.{SummedTo}
 use Rattle.octets.proofs.ChecksumSteps.{summed-one, summed-all}
 use borrow.Author.Needs.{needs}
-use Rattle.octets.proofs.checksum.Statement.{statement}
-use Rattle.octets.proofs.checksum.Tie as tie
+use Rattle.octets.proofs.sum_rest.Statement.{statement}
+use Rattle.octets.proofs.sum_rest.Tie as tie
 
 abbrev Inv-loop : tie.InvT-loop
 Inv-loop s value₀ count₀ value count = SummedTo s value count
@@ -13,11 +13,8 @@ Inv-loop s value₀ count₀ value count = SummedTo s value count
 abbrev μ-loop : tie.MeasureT-loop
 μ-loop s value₀ count₀ value count = length s - count
 
-sum-blocks-requires : tie.Need-sum-blocks-requires Inv-loop μ-loop
-sum-blocks-requires c κs = search needs
-
 loop-holds : tie.Need-loop-holds Inv-loop μ-loop
-loop-holds c = c .sum-blocks .ensures
+loop-holds c = search needs
 
 shared-slice-read-value : tie.Need-shared-slice-read-value Inv-loop μ-loop
 shared-slice-read-value c = search needs
@@ -38,13 +35,12 @@ returns c =
     let loop = c .before .loop in
     summed-all _ (loop .value) (loop .count) (loop .inv) (c .loop-test .left)
 
-pub checksum-spec : {M : Type 1} → statement M
-checksum-spec =
+pub sum-rest-spec : {M : Type 1} → statement M
+sum-rest-spec =
     tie.close
     (tie.spec
     Inv-loop
     μ-loop
-    sum-blocks-requires
     loop-holds
     shared-slice-read-value
     add-count
