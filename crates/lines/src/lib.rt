@@ -25,25 +25,26 @@ fn put_form(out: &mut [u8], at: usize, form: Form) -> usize
 }
 
 // The columns of a message's line.
-fn put_read(out: &mut [u8], at: usize, position: u64, bytes: u64, head: Header, count: u8) -> usize
+fn put_read(out: &mut [u8], at: usize, position: u64, bytes: u16, head: Header, count: u8) -> usize
     ensures { λ r. ⌜ Puts (now (out .entry)) at (messageText position bytes head count) r (now (out .exit)) ⌝ }
 {
     let form = head.form;
     let next = text::put_number(out, at, position, b' ');
-    let next = text::put_number(out, next, bytes, b' ');
+    let next = text::put_short(out, next, bytes, b' ');
     let next = put_form(out, next, form);
-    let next = text::put_number(out, next, count as u64, b' ');
-    text::put_number(out, next, head.time as u64, b'\n')
+    let next = text::put_short(out, next, count as u16, b' ');
+    text::put_long(out, next, head.time, b'\n')
 }
 
 // The line of a message at a position, as its bytes claim it: none where they claim no message. The checksum was run in the division.
 pub fn put_line(out: &mut [u8], at: usize, position: u64, message: &[u8]) -> usize
     ensures { λ r. ⌜ Puts (now (out .entry)) at (lineText position (now (message .entry))) r (now (out .exit)) ⌝ }
 {
-    let bytes = message.len() as u64;
     match macm::claimed_header(message) {
         Head::Refused(_) => at,
-        Head::Read(header, count) => put_read(out, at, position, bytes, header, count),
+        Head::Read(header, count) => {
+            put_read(out, at, position, message.len() as u16, header, count)
+        }
     }
 }
 

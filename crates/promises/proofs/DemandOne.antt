@@ -249,6 +249,8 @@ pub text-asks-nothing :
     × AsksNothing text.put_decimal.ended text.put_decimal.Reads.Asked
     × AsksNothing text.put_hex.ended text.put_hex.Reads.Asked
     × AsksNothing text.put_number.ended text.put_number.Reads.Asked
+    × AsksNothing text.put_long.ended text.put_long.Reads.Asked
+    × AsksNothing text.put_short.ended text.put_short.Reads.Asked
     × AsksNothing text.put_count.ended text.put_count.Reads.Asked
     × AsksNothing text.put_metres.ended text.put_metres.Reads.Asked
     × AsksNothing text.put_hertz.ended text.put_hertz.Reads.Asked
@@ -258,7 +260,7 @@ pub text-asks-nothing :
     × AsksNothing lines.put_rows.ended lines.put_rows.Reads.Asked
     × AsksNothing account.put_report.ended account.put_report.Reads.Asked
 text-asks-nothing =
-    ((λ κs a. tt), (λ κs a. tt), (λ κs a. tt), (λ κs a. tt), (λ κs a. tt), (λ κs a. tt), (λ κs a. tt), (λ κs a. tt), (λ κs a. tt), (λ κs a. tt), (λ κs a. tt), (λ κs a. tt), (λ κs a. tt), (λ κs a. tt))
+    ((λ κs a. tt), (λ κs a. tt), (λ κs a. tt), (λ κs a. tt), (λ κs a. tt), (λ κs a. tt), (λ κs a. tt), (λ κs a. tt), (λ κs a. tt), (λ κs a. tt), (λ κs a. tt), (λ κs a. tt), (λ κs a. tt), (λ κs a. tt), (λ κs a. tt), (λ κs a. tt))
 
 -- the two over a lent state are walked by hand and so have no `Reads`: their `requires` is empty in every model of the logic
 pub cs-feed-asks-nothing : (w : World) (κs : Lfts 4) (a : Args board.cs_feed.signature κs) → board.cs_feed.clauses (w .𝓤) (w .H) (w .𝓖 .A) (w .𝓜 .mem) (w .𝓡 .run) κs a .requires tt ≡ emp (w .𝓤)

@@ -21,6 +21,12 @@ put-hex-determined κs a z z′ w w′ p q = search both
 pub put-number-determined : Determined text.put_number.ended text.put_number.Reads.Learnt
 put-number-determined κs a z z′ w w′ p q = search both
 
+pub put-long-determined : Determined text.put_long.ended text.put_long.Reads.Learnt
+put-long-determined κs a z z′ w w′ p q = search both
+
+pub put-short-determined : Determined text.put_short.ended text.put_short.Reads.Learnt
+put-short-determined κs a z z′ w w′ p q = search both
+
 pub put-count-determined : Determined text.put_count.ended text.put_count.Reads.Learnt
 put-count-determined κs a z z′ w w′ p q = search both
 

@@ -27,6 +27,11 @@ pub puts-none : (out : List ℕ) (at : ℕ) → Puts out at [] at out
 unfolding written after
 puts-none out at = record { next = refl; bytes = refl }
 
+-- a byte put where there is room for it
+pub puts-one : (out : List ℕ) (at b : ℕ) → at < length out → Puts out at (b ∷ []) (at + 1) (set out at b)
+unfolding written after
+puts-one out at b h = record { next = rw (lt-ltb at (length out) h); bytes = refl }
+
 -- two texts put one behind the other are their join, put
 pub written-join : (out : List ℕ) (at : ℕ) (s t : List ℕ) → written (written out at s) (after (length out) at s) t ≡ written out at (s ++ t)
 unfolding written after

@@ -2,9 +2,10 @@
 // end of the buffer, and past the end nothing is put: whoever joins texts tests for room once, or not at all.
 ghost use mathlib.Core.Path.{_≡_};
 ghost use mathlib.Core.List.{_∷_, []};
-ghost use Prim.Native.Nat.{_<_, _≤_};
+ghost use Prim.Native.Nat.{_+_, _<_, _≤_};
 ghost use denote.Ref.{ptr};
 ghost use lib.ListN.{length, take};
+ghost use Rattle.octets.specs.Numbers.{bytesOf};
 ghost use Rattle.text.specs.Columns.{numberText, countText};
 ghost use Rattle.text.specs.Digits.{digitOf, digits, needed, decimal, pointed, metres, hertz};
 ghost use Rattle.text.specs.Double.{exponentOf, thousandths, cycles};
@@ -131,14 +132,143 @@ pub fn put_hex(out: &mut [u8], at: usize, n: u64, width: u8) -> usize
     put_digits(out, at, n, 16, width as usize)
 }
 
+// ---- decimal digits with room for all of them
+
+// Eight digits packed into 64 bits, the first in the highest byte. Two numbers of four digits, 32 bits apart, are divided by 100 at once, then four of two
+// digits, 16 bits apart, by 10: each has room for its product in a place of its own, and the mask leaves the quotient there.
+fn packed_digits(n: u64) -> u64
+    requires { ⌜ n < 100000000 ⌝ }
+    ensures { λ r. ⌜ bytesOf 8 r ≡ digits 10 8 n ⌝ }
+{
+    let fours = n + n / 10000 * 0xFFFF_D8F0;
+    let hundreds = fours * 5243 / 524288 & 0x7F_0000_007F;
+    let pairs = fours + hundreds * 65436;
+    let tens = pairs * 103 / 1024 & 0xF_000F_000F_000F;
+    let ones = pairs + tens * 246;
+    ones + 0x3030_3030_3030_3030
+}
+
+// All eight are one store.
+fn set_packed(out: &mut [u8], at: usize, n: u64) -> usize
+    requires { ⌜ (at + 8 ≤ length (now out)) × (n < 100000000) ⌝ }
+    ensures { λ r. ⌜ (r ≡ at + 8) × Puts (now (out .entry)) at (digits 10 8 n) r (now (out .exit)) ⌝ }
+{
+    let end = at + 8;
+    octets::put_number(&mut out[at..end], packed_digits(n));
+    end
+}
+
+fn set_pair(out: &mut [u8], at: usize, n: u32) -> usize
+    requires { ⌜ (at + 2 ≤ length (now out)) × (n < 100) ⌝ }
+    ensures { λ r. ⌜ (r ≡ at + 2) × Puts (now (out .entry)) at (digits 10 2 n) r (now (out .exit)) ⌝ }
+{
+    out[at] = 48 + (n / 10) as u8;
+    out[at + 1] = 48 + (n % 10) as u8;
+    at + 2
+}
+
+// A number with as many digits as it needs: one or two.
+fn spell_pair(out: &mut [u8], at: usize, n: u32) -> usize
+    requires { ⌜ (at + 2 ≤ length (now out)) × (n < 100) ⌝ }
+    ensures { λ r. ⌜ (r ≤ at + 2) × Puts (now (out .entry)) at (decimal n) r (now (out .exit)) ⌝ }
+{
+    if n < 10 {
+        out[at] = 48 + n as u8;
+        return at + 1;
+    }
+    set_pair(out, at, n)
+}
+
+// Up to four.
+fn spell_short(out: &mut [u8], at: usize, n: u32) -> usize
+    requires { ⌜ (at + 4 ≤ length (now out)) × (n < 10000) ⌝ }
+    ensures { λ r. ⌜ (r ≤ at + 4) × Puts (now (out .entry)) at (decimal n) r (now (out .exit)) ⌝ }
+{
+    if n < 100 {
+        return spell_pair(out, at, n);
+    }
+    let next = spell_pair(out, at, n / 100);
+    set_pair(out, next, n % 100)
+}
+
+// Up to seven.
+fn spell_middle(out: &mut [u8], at: usize, n: u32) -> usize
+    requires { ⌜ (at + 8 ≤ length (now out)) × (n < 10000000) ⌝ }
+    ensures { λ r. ⌜ (r ≤ at + 8) × Puts (now (out .entry)) at (decimal n) r (now (out .exit)) ⌝ }
+{
+    if n < 10000 {
+        return spell_short(out, at, n);
+    }
+    let next = spell_short(out, at, n / 10000);
+    let next = set_pair(out, next, n / 100 % 100);
+    set_pair(out, next, n % 100)
+}
+
+// Up to ten, as 32 bits need: of more than seven the last eight at once.
+fn spell_long(out: &mut [u8], at: usize, n: u32) -> usize
+    requires { ⌜ at + 10 ≤ length (now out) ⌝ }
+    ensures { λ r. ⌜ (r ≤ at + 10) × Puts (now (out .entry)) at (decimal n) r (now (out .exit)) ⌝ }
+{
+    if n < 10000000 {
+        return spell_middle(out, at, n);
+    }
+    if n < 100000000 {
+        return set_packed(out, at, n as u64);
+    }
+    let next = spell_pair(out, at, n / 100000000);
+    set_packed(out, next, n as u64 % 100000000)
+}
+
 // ---- columns
+
+// A number and the byte behind it, of any size and whether there is room for both or not.
+fn put_any(out: &mut [u8], at: usize, n: u64, behind: u8) -> usize
+    ensures { λ r. ⌜ Puts (now (out .entry)) at (numberText n behind) r (now (out .exit)) ⌝ }
+{
+    let next = put_decimal(out, at, n);
+    put(out, next, behind)
+}
 
 // A number and the byte behind it.
 pub fn put_number(out: &mut [u8], at: usize, n: u64, behind: u8) -> usize
     ensures { λ r. ⌜ Puts (now (out .entry)) at (numberText n behind) r (now (out .exit)) ⌝ }
 {
-    let next = put_decimal(out, at, n);
-    put(out, next, behind)
+    if n < 4294967296 {
+        return put_long(out, at, n as u32, behind);
+    }
+    put_any(out, at, n, behind)
+}
+
+// The same of 32 bits, as a time has: with room for the widest no digit is tested for room.
+pub fn put_long(out: &mut [u8], at: usize, n: u32, behind: u8) -> usize
+    ensures { λ r. ⌜ Puts (now (out .entry)) at (numberText n behind) r (now (out .exit)) ⌝ }
+{
+    let room = out.len();
+    if at < room {
+        if 11 <= room - at {
+            let next = spell_long(out, at, n);
+            out[next] = behind;
+            return next + 1;
+        }
+    }
+    put_any(out, at, n as u64, behind)
+}
+
+// The same of 16 bits, as a length or a count has: mostly a few digits, which are set where the caller stands.
+pub fn put_short(out: &mut [u8], at: usize, n: u16, behind: u8) -> usize
+    ensures { λ r. ⌜ Puts (now (out .entry)) at (numberText n behind) r (now (out .exit)) ⌝ }
+{
+    let room = out.len();
+    if at < room {
+        if 5 <= room - at {
+            if n < 10000 {
+                let next = spell_short(out, at, n as u32);
+                out[next] = behind;
+                return next + 1;
+            }
+        }
+    }
+    put_number(out, at, n as u64, behind)
 }
 
 // A word, a number and the byte behind it.
