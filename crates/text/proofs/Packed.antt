@@ -146,9 +146,9 @@ places-joined a b c d p q r s = omega arith
 pub packed-bytes : (n : ℕ) → n < 100000000 → bytesOf 8 (ones n + 0x3030303030303030) ≡ digits 10 8 n
 packed-bytes n h =
     let e : ones n + 0x3030303030303030 ≡ spelled 8 n =
-        ap₂ (λ p t. p + t * 246 + 0x3030303030303030) (pairs-are n h) (tens-are n h)
-        ∙ places-joined (n / 1000000) (n / 10000 % 100) (n / 100 % 100) (n % 100) (n / 1000000 / 10) (n / 10000 % 100 / 10) (n / 100 % 100 / 10) (n % 100 / 10)
-        ∙ sym (spelled-packed n h) in
+    ap₂ (λ p t. p + t * 246 + 0x3030303030303030) (pairs-are n h) (tens-are n h)
+    ∙ places-joined (n / 1000000) (n / 10000 % 100) (n / 100 % 100) (n % 100) (n / 1000000 / 10) (n / 10000 % 100 / 10) (n / 100 % 100 / 10) (n % 100 / 10)
+    ∙ sym (spelled-packed n h) in
     ap (bytesOf 8) e ∙ spelled-bytes 8 n
 
 -- ---- no step passes 64 bits

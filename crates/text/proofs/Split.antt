@@ -1,4 +1,4 @@
--- A decimal number in two parts: what stands before its last k digits, and these. Assumes nothing.
+-- A decimal number in parts: what stands before its last k digits, and these; and digits set one by one. Assumes nothing.
 use Prim.Native.Nat.{ℕ, zero, suc, _+_, _*_, _/_, _%_, _^_, _≤_, _<_}
 use mathlib.Core.Path.{_≡_, refl, sym, ap, ap₂, _∙_}
 use mathlib.Core.Bool.{Bool, true, false, cond}
@@ -31,7 +31,7 @@ digits-split j (suc k) n =
     ∙ append-assoc (digits 10 j (n / 10 ^ suc k)) (digits 10 k (n / 10)) d
 
 -- the last k digits are those of what is left behind 10 ^ k
-pub digits-rest : (k n : ℕ) → digits 10 k (n % 10 ^ k) ≡ digits 10 k n
+digits-rest : (k n : ℕ) → digits 10 k (n % 10 ^ k) ≡ digits 10 k n
 unfolding digits
 digits-rest zero n = refl
 digits-rest (suc k) n =
