@@ -1,6 +1,7 @@
 //! The programs print what the second reader prints, whatever the stream and however it arrives.
 
 use programs::printed;
+use reader::{Header, Message, Observation};
 use streams::Random;
 
 const SEED: u64 = 2004;
@@ -25,6 +26,27 @@ fn a_long_stream() {
     let mut stream = Vec::new();
     while stream.len() < 1_000_000 {
         stream.extend(streams::piece_of_stream(&mut random));
+    }
+    let pieces = [stream.len()];
+    assert_eq!(printed("listing", &stream, &pieces), programs::listing(&stream));
+    assert_eq!(printed("rows", &stream, &pieces), programs::rows(&stream));
+}
+
+/// Times, lock counts, lengths and positions about every power of ten: how the digits of a number are set hangs on how many there are.
+#[test]
+fn numbers_of_every_width() {
+    let powers = || (0..10).map(|exponent| 10u32.pow(exponent));
+    let mut stream = Vec::new();
+    for (turn, time) in powers().flat_map(|power| [power - 1, power, power + 1]).chain([u32::MAX]).enumerate() {
+        let header = [Header::Old { version: 2, time, offset: 0 }, Header::New { signal: turn as u8, tfom: 0, time, offset: 0 }][turn % 2];
+        let observations = vec![Observation { lock: time, ..Default::default() }; [0, 1, 3, 4, 40, 42, 255][turn % 7]];
+        stream.extend(Message { header, observations }.to_bytes());
+    }
+    let short = Message { header: Header::Old { version: 0, time: 0, offset: 0 }, observations: Vec::new() }.to_bytes();
+    let reached = stream.len();
+    for power in powers().map(|power| power as usize).filter(|power| (reached..=10_000_000).contains(power)) {
+        stream.resize(power - 2 * short.len() + 1, 0);
+        stream.extend([&short[..]; 4].concat());
     }
     let pieces = [stream.len()];
     assert_eq!(printed("listing", &stream, &pieces), programs::listing(&stream));
