@@ -32,25 +32,36 @@ fn a_long_stream() {
     assert_eq!(printed("rows", &stream, &pieces), programs::rows(&stream));
 }
 
+/// An old message with this time and as many observations, which all have it as their lock count.
+fn timed(time: u32, count: usize) -> Vec<u8> {
+    let observations = vec![Observation { lock: time, ..Default::default() }; count];
+    Message { header: Header::Old { version: 2, time, offset: 0 }, observations }.to_bytes()
+}
+
+fn assert_printed(stream: &[u8]) {
+    assert_eq!(printed("listing", stream, &[stream.len()]), programs::listing(stream));
+    assert_eq!(printed("rows", stream, &[stream.len()]), programs::rows(stream));
+}
+
 /// Times, lock counts, lengths and positions about every power of ten: how the digits of a number are set hangs on how many there are.
 #[test]
 fn numbers_of_every_width() {
     let powers = || (0..10).map(|exponent| 10u32.pow(exponent));
-    let mut stream = Vec::new();
-    for (turn, time) in powers().flat_map(|power| [power - 1, power, power + 1]).chain([u32::MAX]).enumerate() {
-        let header = [Header::Old { version: 2, time, offset: 0 }, Header::New { signal: turn as u8, tfom: 0, time, offset: 0 }][turn % 2];
-        let observations = vec![Observation { lock: time, ..Default::default() }; [0, 1, 3, 4, 40, 42, 255][turn % 7]];
-        stream.extend(Message { header, observations }.to_bytes());
-    }
-    let short = Message { header: Header::Old { version: 0, time: 0, offset: 0 }, observations: Vec::new() }.to_bytes();
+    let times = powers().flat_map(|power| [power - 1, power, power + 1]).chain([u32::MAX]);
+    let mut stream: Vec<u8> = times.zip([0, 1, 3, 4, 40, 42, 255].into_iter().cycle()).flat_map(|(time, count)| timed(time, count)).collect();
     let reached = stream.len();
     for power in powers().map(|power| power as usize).filter(|power| (reached..=10_000_000).contains(power)) {
-        stream.resize(power - 2 * short.len() + 1, 0);
-        stream.extend([&short[..]; 4].concat());
+        stream.resize(power - 29, 0);
+        stream.extend(timed(0, 0).repeat(4));
     }
-    let pieces = [stream.len()];
-    assert_eq!(printed("listing", &stream, &pieces), programs::listing(&stream));
-    assert_eq!(printed("rows", &stream, &pieces), programs::rows(&stream));
+    assert_printed(&stream);
+}
+
+/// The last eight digits are set at once, in two halves: every number of four digits in each.
+#[test]
+fn every_four_digits() {
+    let times = (0..10_000).map(|four| 100_000_000 + four * 10_000 + (9_999 - four));
+    assert_printed(&times.flat_map(|time| timed(time, 0)).collect::<Vec<u8>>());
 }
 
 #[test]
