@@ -135,7 +135,8 @@ pub fn put_hex(out: &mut [u8], at: usize, n: u64, width: u8) -> usize
 // ---- decimal digits with room for all of them
 
 // Eight digits packed into 64 bits, the first in the highest byte. Two numbers of four digits, 32 bits apart, are divided by 100 at once, then four of two
-// digits, 16 bits apart, by 10: each has room for its product in a place of its own, and the mask leaves the quotient there.
+// digits, 16 bits apart, by 10: each has room for its product in a place of its own, and the mask leaves the quotient there. 2^32 - 10000, 2^16 - 100
+// and 2^8 - 10 move a quotient to its place and take what it counts out of the rest.
 fn packed_digits(n: u64) -> u64
     requires { ⌜ n < 100000000 ⌝ }
     ensures { λ r. ⌜ bytesOf 8 r ≡ digits 10 8 n ⌝ }
