@@ -1,15 +1,14 @@
 -- Eight digits at once: what each step of `text::packed_digits` comes to, place by place of the word. Assumes nothing.
 use Prim.Native.Nat.{ℕ, zero, suc, _+_, _-_, _*_, _/_, _%_, _^_, _≤_, _<_}
 use mathlib.Core.Path.{_≡_, refl, sym, ap, ap₂, _∙_}
-use mathlib.Core.List.{List, [], _∷_, _++_}
+use mathlib.Core.List.{[], _∷_, _++_}
 use native.Mathlib.Omega.{arith}
 use native.Mathlib.Nat.{mod-lt, mod-eq-of-lt, add-mul-mod-self-right, div-div-eq-div-mul, lt-of-lt-of-le}
-use borrow.Author.Tests.{lt-ltb}
 use lib.Bits.{bitAnd, and-block, and-mask}
 use lib.Pow.{pow-pos, pow-mono, split, mod-mod-pow, ones-lt}
 use Rattle.octets.specs.Numbers.{bytesOf}
 use Rattle.text.specs.Digits.{digitOf, digits}
-use Rattle.text.proofs.Spelling.{pair-low, pair-high}
+use Rattle.text.proofs.Spelling.{digit-ten, pair-low, pair-high}
 
 -- a mask's lowest place keeps the g low bits there, and the rest of the mask meets the rest of the word
 masked : (j g y e : ℕ) → bitAnd y (e * 2 ^ (j + g) + (2 ^ g - 1)) ≡ bitAnd (y / 2 ^ (j + g)) e * 2 ^ (j + g) + y % 2 ^ g
@@ -110,7 +109,7 @@ spelled-bytes (suc k) n =
     let d = n % 10 in
     let l : d < 10 = mod-lt n (omega arith) in
     let high : (v * 256 + (48 + d)) / 256 ≡ v = omega arith in
-    let low : (v * 256 + (48 + d)) % 256 ≡ digitOf d = rw (lt-ltb d 10 l) (omega arith) in
+    let low : (v * 256 + (48 + d)) % 256 ≡ digitOf d = rw (← (digit-ten d l)) (omega arith) in
     ap₂ (λ w b. bytesOf k w ++ (b ∷ [])) high low ∙ ap (λ s. s ++ (digitOf d ∷ [])) (spelled-bytes k (n / 10))
 
 -- by two digits

@@ -12,7 +12,7 @@ use lib.ListN.{length, set, length-set}
 use Rattle.text.specs.Digits.{digitOf, digits, needed, decimal}
 use Rattle.text.specs.Put.{Puts}
 use Rattle.text.proofs.PutLaws.{puts-one, puts-join}
-use Rattle.text.proofs.Spelling.{needed-last, needed-more, tenth-fits}
+use Rattle.text.proofs.Spelling.{digit-ten, needed-last, needed-more, tenth-fits}
 
 ten-pos : (k : ℕ) → 0 < 10 ^ k
 ten-pos zero = omega arith
@@ -81,9 +81,6 @@ pub decimal-exact : (k n : ℕ) → n < 10 ^ 20 → 10 ^ k ≤ n → n / 10 ^ k 
 decimal-exact k n h l f =
     let e : needed 20 n ≡ suc k = needed-split k n h l ∙ ap (λ j. k + j) (needed-last 19 (n / 10 ^ k) f) ∙ omega arith in
     ap (λ j. digits 10 j n) e
-
-digit-ten : (d : ℕ) → d < 10 → 48 + d ≡ digitOf d
-digit-ten d h = rw (lt-ltb d 10 h)
 
 -- of one digit
 pub decimal-digit : (n : ℕ) → n < 10 → decimal n ≡ (48 + n) ∷ []
