@@ -28,21 +28,26 @@ static void print_half(uint64_t phase) {
     printf("%s%" PRIu64 ".%03u", phase >> 63 ? "-" : "", size / 1000, (unsigned)(size % 1000));
 }
 
-/* The phase in cycles, or the word for one that is none. */
-static void print_phase(int valid, uint64_t phase) {
+/* The phase in cycles, or the word for one that is none. Answers whether it has cycles. */
+static int print_phase(int valid, uint64_t phase) {
     double cycles;
     memcpy(&cycles, &phase, sizeof cycles);
     if (!valid) {
         fputs("withheld", stdout);
-    } else if (exponent_of(phase) == EXPONENT) {
+        return 0;
+    }
+    if (exponent_of(phase) == EXPONENT) {
         fputs("nonfinite", stdout);
-    } else if (exponent_of(phase) > 1075) {
+        return 0;
+    }
+    if (exponent_of(phase) > 1075) {
         fputs("wide", stdout);
     } else if (ends_in_a_half(phase)) {
         print_half(phase);
     } else {
         printf("%.3f", cycles);
     }
+    return 1;
 }
 
 /* Position, time, form and TYPE. */
@@ -61,8 +66,8 @@ static void print_observation(int new, const uint8_t *o) {
     uint64_t range = (input_word(o + 12) * UINT64_C(149896229) + 7500) / 15000, lock = 2 * (uint64_t)input_word(o + 20);
     uint32_t raw = input_word(o + 16), rate = raw >> 31 ? -raw : raw;
     printf("%u %u %04X %" PRIu64 ".%06u ", o[0], o[3], condition, range / 1000000, (unsigned)(range % 1000000));
-    print_phase(new && (condition & 4) != 0, phase);
-    printf(" %016" PRIX64 " %s %s%" PRIu32 ".%04" PRIu32 " %" PRIu64 "\n", phase, new ? polarities[condition >> 8 & 7] : "-", raw >> 31 ? "-" : "",
+    int shown = print_phase(new && (condition & 4) != 0, phase);
+    printf(" %016" PRIX64 " %s %s%" PRIu32 ".%04" PRIu32 " %" PRIu64 "\n", phase, shown ? polarities[condition >> 8 & 7] : "-", raw >> 31 ? "-" : "",
            rate / 10000, rate % 10000, lock);
 }
 

@@ -62,8 +62,16 @@ enum {
     CS_CHECKSUM = 6     /* the checksum is off; value: the exclusive or of byte 5 up to and with the checksum, never 0 */
 };
 
-/* The kind of a phase. */
-enum { CS_WITHHELD = 0, CS_NOT_FINITE = 1, CS_CYCLES = 2 };
+/* The kind of a phase, in the order in which they are tried. The first two have no cycles, the others the double with PHASE's bits, to which nothing was
+ * added: what CONDITION's polarity code says of it is the caller's to do, and README.md has what that is in each case. */
+enum {
+    CS_WITHHELD = 0,          /* the old form, or CONDITION's bit 2 is clear: no phase to use */
+    CS_NOT_FINITE = 1,        /* PHASE is an infinity or a NaN: no phase to use */
+    CS_POLARITY_UNKNOWN = 2,  /* code 0: nobody knows whether half a cycle is due */
+    CS_NOT_CORRECTED = 3,     /* code 5: not corrected since lock, when it was correct: nothing is due */
+    CS_DUE_HALF = 4,          /* code 7: correct now, and half a cycle is due, once */
+    CS_POLARITY_UNDEFINED = 5 /* code 1 to 4 or 6: 264-21 does not say what is due */
+};
 
 /* One reader's state. Keep it for the whole stream and write nothing into it; cs_fresh gives a new one. ended is 0, or anything else.
  *
@@ -102,8 +110,8 @@ typedef struct { uint64_t refusal; cs_observation observation; } cs_observed;
 /* What a writing call answers: the length of the message or the record at the front of the output. */
 typedef struct { uint64_t refusal, length; } cs_written;
 
-/* A phase: its kind, and the cycles where it has any, else 0. */
-typedef struct { uint64_t kind; double cycles; } cs_cycles;
+/* A phase: its kind and, where it has cycles, the polarity code, 0 to 7, and the cycles; else 0. */
+typedef struct { uint64_t kind, code; double cycles; } cs_cycles;
 
 /* A plot row: range in metres, rate in hertz. */
 typedef struct { double range, rate; } cs_row;
@@ -178,7 +186,8 @@ uint64_t cs_range_um(uint32_t pseudorange);
 /* The milliseconds since lock of a lock count as LOCKTIME has it. */
 uint64_t cs_lock_ms(uint32_t lock);
 
-/* The phase of an observation in a message of this form (CS_OLD, or else the new form). */
+/* The phase of an observation in a message of this form (CS_OLD, or else the new form): the form and the flag decide first, then whether it is finite,
+ * then the polarity. */
 cs_cycles cs_phase(uint64_t form, cs_observation observation);
 
 /* The plot row of a pseudorange and a rate as PR and RATE have them: within 4 nm of the range that cs_range_um answers, and within 2/10^11 Hz. */

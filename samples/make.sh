@@ -1,5 +1,5 @@
 #!/bin/sh
-# Makes what is stored of the second reader's output: the sample recordings, the listing and the rows of one, and what the programs have to print for
+# Makes what is stored of the second reader's output: the sample recordings, the listing of one and the rows of two, and what the programs have to print for
 # rt and the C host for its test. `samples/make.sh check` compares instead, and fails where a file differs.
 set -u
 root=$(cd "$(dirname "$0")/.." && pwd -P) || exit 2
@@ -22,6 +22,8 @@ stored() {
 stored samples/sortie.macm sample
 stored samples/sortie.listing listing "$root/samples/sortie.macm"
 stored samples/sortie.rows rows "$root/samples/sortie.macm"
+stored samples/phases.macm every-phase
+stored samples/phases.rows rows "$root/samples/phases.macm"
 stored crates/listing/stdout listing "$root/crates/listing/stdin"
 stored crates/rows/stdout rows "$root/crates/rows/stdin"
 stored crates/why/stdin every-reason

@@ -1,5 +1,5 @@
 #!/bin/sh
-# The C host of tests/host/ reads the published messages, S12, and A then B through the C boundary, compiled plainly and with sanitizers, and prints
+# The C host of tests/host/ reads the published messages, every case of a phase, S12, and A then B through the C boundary, compiled plainly and with sanitizers, and prints
 # what tests/host/expected.txt says; another one prints the reasons that the program `why` prints, a third one the published range record; the header is
 # taken by C and by C++. Needs target/staticlib/libboard.a, which `rt staticlib board` leaves.
 set -u
@@ -24,9 +24,10 @@ build() {
 
 # listing NAME: what the host of this name prints for every recording, from files and from standard input
 listing() {
-    for recording in 264-21-figure-1 264-04-table-4 264-04-table-4-by-the-rule; do
-        echo "$recording"
-        $emulator "$work/$1" "crates/vectors/data/$recording.bin" || return 1
+    data=crates/vectors/data
+    for recording in $data/264-21-figure-1.bin $data/264-04-table-4.bin $data/264-04-table-4-by-the-rule.bin samples/phases.macm; do
+        basename "${recording%.*}"
+        $emulator "$work/$1" "$recording" || return 1
     done
     echo "S12, from standard input"
     printf 'MACMAC2\000\000\000\016\240\014\220\100\174\020\000\036' | $emulator "$work/$1" || return 1

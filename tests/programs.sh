@@ -16,6 +16,7 @@ sh samples/make.sh check || fail "a stored output is another"
 ./cablesound list samples/sortie.macm | cmp -s - samples/sortie.listing || fail "list prints something else than samples/sortie.listing"
 ./cablesound rows samples/sortie.macm | cmp -s - samples/sortie.rows || fail "rows prints something else than samples/sortie.rows"
 ./cablesound rows <samples/sortie.macm | cmp -s - samples/sortie.rows || fail "rows prints something else from standard input"
+./cablesound rows samples/phases.macm | cmp -s - samples/phases.rows || fail "rows prints something else than samples/phases.rows"
 printf 'at bytes form obs time\nend 0 messages 0 gap 0\n' >target/empty.listing
 ./cablesound list </dev/null | cmp -s - target/empty.listing || fail "list of nothing"
 (cd samples && ../cablesound list sortie.macm) | cmp -s - samples/sortie.listing || fail "list takes a name from another folder than the caller's"

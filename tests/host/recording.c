@@ -14,21 +14,34 @@ static uint8_t output[CS_LONGEST];
 /* How many bytes of the stream lie behind us, as messages or as gap. */
 static uint64_t behind;
 
-static void print_observation(uint64_t form, const cs_observation *observation) {
-    cs_cycles phase = cs_phase(form, *observation);
-    uint64_t range = cs_range_um((uint32_t)observation->pseudorange);
-    printf("  sid %" PRIu64 " range_um %" PRIu64 " rate %" PRId64, observation->sid, range, observation->rate);
+/* The phase, and what its polarity says of it. Half a cycle that is due is not in the cycles: who computes the track adjusts them, once. */
+static void print_phase(cs_cycles phase) {
     switch (phase.kind) {
-    case CS_CYCLES:
-        printf(" phase %.6f\n", phase.cycles);
+    case CS_WITHHELD:
+        printf(" phase withheld\n");
         break;
     case CS_NOT_FINITE:
         printf(" phase not finite\n");
         break;
+    case CS_POLARITY_UNKNOWN:
+        printf(" phase %.6f polarity unknown\n", phase.cycles);
+        break;
+    case CS_NOT_CORRECTED:
+        printf(" phase %.6f not corrected since lock\n", phase.cycles);
+        break;
+    case CS_DUE_HALF:
+        printf(" phase %.6f due half a cycle\n", phase.cycles);
+        break;
     default:
-        printf(" phase withheld\n");
+        printf(" phase %.6f polarity undefined %" PRIu64 "\n", phase.cycles, phase.code);
         break;
     }
+}
+
+static void print_observation(uint64_t form, const cs_observation *observation) {
+    uint64_t range = cs_range_um((uint32_t)observation->pseudorange);
+    printf("  sid %" PRIu64 " range_um %" PRIu64 " rate %" PRId64, observation->sid, range, observation->rate);
+    print_phase(cs_phase(form, *observation));
 }
 
 /* Prints the message at the front of the output: its header, read once, says how many observations there are to ask for. Answers 0, or the refusal of

@@ -16,13 +16,8 @@ use Rattle.macm.specs.declared.Head.the-variants.{Refused, Read as Headed}
 use Rattle.macm.specs.declared.Observed.{Observed}
 use Rattle.macm.specs.declared.Observed.the-variants.{Refused as NotObserved, Read}
 use Rattle.track.specs.declared.Phase.{Phase}
-use Rattle.track.specs.declared.Phase.the-variants.{Withheld, NotFinite, Cycles}
-use Rattle.track.specs.declared.Polarity.{Polarity}
-use Rattle.track.specs.declared.Polarity.the-variants.{NotKnown, NotCorrected, NeedsHalfCycle, Undefined}
-use Rattle.track.specs.declared.Condition.{Condition}
-use Rattle.track.specs.declared.Condition.the-variants.{Flagged, MakerDefined}
+use Rattle.track.specs.declared.Phase.the-variants.{Withheld, NotFinite, PolarityUnknown, NotCorrected, DueHalf, PolarityUndefined}
 use Rattle.track.specs.Range.{rangeOf}
-use Rattle.track.specs.Condition.{conditionOf}
 use Rattle.track.specs.Shown.{phaseOf}
 use Rattle.lines.specs.Listing.{formText}
 
@@ -43,23 +38,23 @@ rangeText o = numberText (o .sid) space ++ (numberText (o .cn0) space ++ (digits
 abbrev pub phaseText : Phase → ℕ → List ℕ
 phaseText Withheld bits = word "withheld"
 phaseText NotFinite bits = nonfinite
-phaseText (Cycles double) bits = cycles bits
+phaseText (PolarityUnknown double) bits = cycles bits
+phaseText (NotCorrected double) bits = cycles bits
+phaseText (DueHalf double) bits = cycles bits
+phaseText (PolarityUndefined code double) bits = cycles bits
 
--- half a cycle is needed; an undefined code stands behind its word
-abbrev pub polarityText : Polarity → List ℕ
-polarityText NotKnown = word "unknown "
-polarityText NotCorrected = word "uncorrected "
-polarityText NeedsHalfCycle = word "half "
-polarityText (Undefined code) = countText (word "undefined") code space
-
--- in the old form every bit is the maker's
-abbrev pub conditionText : Condition → List ℕ
-conditionText (Flagged flags) = polarityText (flags .polarity)
-conditionText (MakerDefined bits) = word "- "
+-- no polarity stands beside a phase that has no cycles, whatever its code; an undefined code stands behind its word
+abbrev pub polarityText : Phase → List ℕ
+polarityText Withheld = word "- "
+polarityText NotFinite = word "- "
+polarityText (PolarityUnknown double) = word "unknown "
+polarityText (NotCorrected double) = word "uncorrected "
+polarityText (DueHalf double) = word "half "
+polarityText (PolarityUndefined code double) = countText (word "undefined") code space
 
 -- phase in cycles, PHASE's sixteen digits, polarity
 abbrev pub shownText : Form → Observation → List ℕ
-shownText f o = phaseText (phaseOf f o) (o .phase) ++ ((space ∷ []) ++ (digits 16 16 (o .phase) ++ ((space ∷ []) ++ conditionText (conditionOf f o))))
+shownText f o = phaseText (phaseOf f o) (o .phase) ++ ((space ∷ []) ++ (digits 16 16 (o .phase) ++ ((space ∷ []) ++ polarityText (phaseOf f o))))
 
 -- the columns of an observation: these, rate in hertz, time since lock in milliseconds
 abbrev pub observationText : Form → Observation → List ℕ

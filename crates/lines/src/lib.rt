@@ -5,13 +5,11 @@ use macm::Head;
 use macm::Header;
 use macm::Observation;
 use macm::Observed;
-use track::Condition;
 use track::Phase;
-use track::Polarity;
 ghost use mathlib.Core.List.{_++_};
 ghost use Rattle.text.specs.Put.{Puts};
 ghost use Rattle.lines.specs.Listing.{formText, messageText, lineText, endText};
-ghost use Rattle.lines.specs.Rows.{headText, rangeText, phaseText, conditionText, shownText, observationText, rowText, rowsUpTo, rowsText};
+ghost use Rattle.lines.specs.Rows.{headText, rangeText, phaseText, polarityText, shownText, observationText, rowText, rowsUpTo, rowsText};
 
 // ---- the listing
 
@@ -91,36 +89,36 @@ fn put_phase(out: &mut [u8], at: usize, phase: Phase, bits: u64) -> usize
     match phase {
         Phase::Withheld => text::put_all(out, at, b"withheld"),
         Phase::NotFinite => text::put_all(out, at, b"nonfinite"),
-        Phase::Cycles(_) => text::put_cycles(out, at, bits),
+        _ => text::put_cycles(out, at, bits),
     }
 }
 
-// CONDITION's polarity: in the old form the maker defines every bit.
-fn put_polarity(out: &mut [u8], at: usize, condition: Condition) -> usize
-    ensures { λ r. ⌜ Puts (now (out .entry)) at (conditionText condition) r (now (out .exit)) ⌝ }
+// The word for the polarity of a phase that has cycles.
+fn put_polarity(out: &mut [u8], at: usize, phase: Phase) -> usize
+    ensures { λ r. ⌜ Puts (now (out .entry)) at (polarityText phase) r (now (out .exit)) ⌝ }
 {
-    let Condition::Flagged(flags) = condition else {
-        return text::put_all(out, at, b"- ");
-    };
-    let polarity = flags.polarity;
-    match polarity {
-        Polarity::NotKnown => text::put_all(out, at, b"unknown "),
-        Polarity::NotCorrected => text::put_all(out, at, b"uncorrected "),
-        Polarity::NeedsHalfCycle => text::put_all(out, at, b"half "),
-        Polarity::Undefined(code) => text::put_count(out, at, b"undefined", code as u64, b' '),
+    match phase {
+        Phase::PolarityUnknown(_) => text::put_all(out, at, b"unknown "),
+        Phase::NotCorrected(_) => text::put_all(out, at, b"uncorrected "),
+        Phase::DueHalf(_) => text::put_all(out, at, b"half "),
+        Phase::PolarityUndefined(code, _) => {
+            text::put_count(out, at, b"undefined", code as u64, b' ')
+        }
+        _ => text::put_all(out, at, b"- "),
     }
 }
 
-// The phase in cycles, PHASE's bits, and the polarity.
+// The phase in cycles, PHASE's bits, and the polarity, which is the phase's own.
 fn put_shown(out: &mut [u8], at: usize, form: Form, observation: Observation) -> usize
     ensures { λ r. ⌜ Puts (now (out .entry)) at (shownText form observation) r (now (out .exit)) ⌝ }
 {
     let bits = observation.phase;
-    let next = put_phase(out, at, track::phase_of(form, observation), bits);
+    let phase = track::phase_of(form, observation);
+    let next = put_phase(out, at, phase, bits);
     let next = text::put(out, next, b' ');
     let next = text::put_hex(out, next, bits, 16);
     let next = text::put(out, next, b' ');
-    put_polarity(out, next, track::condition_of(form, observation))
+    put_polarity(out, next, phase)
 }
 
 // What stands at the front of all rows of a message, then the observation's own columns: the rate in hertz and the time since lock in milliseconds end

@@ -1,10 +1,11 @@
--- Bits whose exponent is not all ones are no NaN's, and the float that is read from them is finite and has these very bits. Assumes nothing.
+-- Bits whose exponent is not all ones are no NaN's, and the float that is read from them is finite and has these very bits; else it is not finite.
+-- Assumes nothing.
 use mathlib.Core.Path.{_≡_, refl, sym, ap, _∙_, subst}
-use mathlib.Core.Bool.{Bool, true, false, not, _&&_}
+use mathlib.Core.Bool.{Bool, true, false, cond, not, _&&_}
 use Prim.Native.Nat.{ℕ, _*_, _/_, _%_, _<_}
 use native.Mathlib.Omega.{arith}
-use lib.Dec.{T, eqb, eqb→eq, not-T}
-use lib.Ieee.{Float, nan, inf, fin, Format, binary32, binary64, hid, ones, top, nanBits, ofBits, toBits}
+use lib.Dec.{T, eqb, leb, eqb→eq, not-T}
+use lib.Ieee.{Float, nan, inf, fin, Format, binary32, binary64, hid, ones, top, nanBits, ofFields, ofBits, toBits}
 use lib.Ieee.Fits.{and-l}
 use lib.Ieee.Scale.{finite}
 use lib.Ieee.Bits.{nanBits-is, toBits-ofBits}
@@ -38,3 +39,20 @@ module _ (f : Format) (b : ℕ) (h : exponent f b ≡ ones f → ⊥) where
   has-bits l =
       let same : toBits f (ofBits f b) ≡ b = toBits-ofBits f b l (subst (λ (t : Bool). T (not t)) (nanBits-is f b) no-nan) in
       (same, is-finite f (ofBits f b) (λ e. h (ap (exponent f) (sym same) ∙ e)))
+
+-- and the other way round
+exponent-of : (f : Format) (b : ℕ) → exponent f b ≡ ones f → b % top f / hid f ≡ ones f
+exponent-of binary32 b e = omega arith
+exponent-of binary64 b e = omega arith
+
+pub not-finite : (f : Format) (b : ℕ) → exponent f b ≡ ones f → finite (ofBits f b) ≡ false
+unfolding ofBits ofFields
+not-finite f b e = ap (λ x. finite (ofFields f (leb (top f) b) x (b % hid f))) (exponent-of f b e) ∙ none f (leb (top f) b) (b % hid f)
+  where
+    no-number : (s t : Bool) → finite (cond t (inf s) nan) ≡ false
+    no-number s true = refl
+    no-number s false = refl
+
+    none : (f : Format) (s : Bool) (t : ℕ) → finite (ofFields f s (ones f) t) ≡ false
+    none binary32 s t = no-number s (eqb t 0)
+    none binary64 s t = no-number s (eqb t 0)

@@ -15,7 +15,11 @@ use Rattle.track.specs.declared.Condition.the-variants.{Flagged, MakerDe
 abbrev pub bit : ℕ → ℕ → Bool
 bit k n = eqb (n / 2 ^ k % 2) 1
 
--- PHASE Polarity State by its code, of which 0, 5 and 7 are defined
+-- the code of PHASE Polarity State, bits 8 to 10
+abbrev pub polarityCode : ℕ → ℕ
+polarityCode condition = condition / 2 ^ 8 % 2 ^ 3
+
+-- what a code says, of which 0, 5 and 7 are defined
 unfoldable pub polarityOf : ℕ → Polarity
 polarityOf code = cond (eqb code 0) NotKnown (cond (eqb code 5) NotCorrected (cond (eqb code 7) NeedsHalfCycle (Undefined code)))
 
@@ -30,7 +34,7 @@ flagsOf condition =
       «phase_iono_corrected» = bit 5 condition;
       «pr_tropo_corrected» = bit 6 condition;
       «phase_tropo_corrected» = bit 7 condition;
-      polarity = polarityOf (condition / 2 ^ 8 % 2 ^ 3);
+      polarity = polarityOf (polarityCode condition);
       «jam_detect» = bit 11 condition;
       maker = condition / 2 ^ 12;
     }

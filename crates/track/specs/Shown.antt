@@ -10,10 +10,12 @@ use Rattle.macm.specs.declared.Form.the-variants.{New, Old}
 use Rattle.macm.specs.declared.Header.{Header}
 use Rattle.macm.specs.declared.Observation.{Observation}
 use Rattle.track.specs.declared.Phase.{Phase}
-use Rattle.track.specs.declared.Phase.the-variants.{Withheld, NotFinite, Cycles}
+use Rattle.track.specs.declared.Phase.the-variants.{Withheld, NotFinite, PolarityUnknown, NotCorrected, DueHalf, PolarityUndefined}
 use Rattle.track.specs.declared.Offset.{Offset}
 use Rattle.track.specs.declared.Offset.the-variants.{NotFinite as OffsetNotFinite, Metres}
-use Rattle.track.specs.Condition.{bit}
+use Rattle.track.specs.declared.Polarity.{Polarity}
+use Rattle.track.specs.declared.Polarity.the-variants.{NotKnown, NotCorrected as Uncorrected, NeedsHalfCycle, Undefined}
+use Rattle.track.specs.Condition.{bit, polarityCode, polarityOf}
 
 -- the exponent's field, between the sign and the digits (`hid` is what its lowest bit is worth, `ones` the field with every bit set)
 abbrev pub exponent : Format → ℕ → ℕ
@@ -23,12 +25,20 @@ exponent f bits = bits / hid f % suc (ones f)
 abbrev pub allOnes : Format → ℕ → Bool
 allOnes f bits = eqb (exponent f bits) (ones f)
 
--- withheld in the old form and if CONDITION bit 2 is clear; else not finite if the exponent is all ones; else the double with the same bits
+-- what is shown of cycles, by their polarity
+abbrev pub cyclesWith : Polarity → Float → Phase
+cyclesWith NotKnown x = PolarityUnknown x
+cyclesWith Uncorrected x = NotCorrected x
+cyclesWith NeedsHalfCycle x = DueHalf x
+cyclesWith (Undefined code) x = PolarityUndefined code x
+
+-- withheld in the old form and if CONDITION bit 2 is clear; else not finite if the exponent is all ones; else the double with the same bits, by its
+-- polarity
 abbrev pub phaseOf : Form → Observation → Phase
 phaseOf (Old version) o = Withheld
 phaseOf (New signal tfom) o =
     cond (bit 2 (o .condition))
-    (cond (allOnes binary64 (o .phase)) NotFinite (Cycles (ofBits binary64 (o .phase))))
+    (cond (allOnes binary64 (o .phase)) NotFinite (cyclesWith (polarityOf (polarityCode (o .condition))) (ofBits binary64 (o .phase))))
     Withheld
 
 -- in both forms alike
@@ -42,7 +52,10 @@ HasBits f x bits = (toBits f x ≡ bits) × T (finite x)
 abbrev pub PhaseShows : Phase → ℕ → Type 0
 PhaseShows Withheld bits = Unit
 PhaseShows NotFinite bits = Unit
-PhaseShows (Cycles x) bits = HasBits binary64 x bits
+PhaseShows (PolarityUnknown x) bits = HasBits binary64 x bits
+PhaseShows (NotCorrected x) bits = HasBits binary64 x bits
+PhaseShows (DueHalf x) bits = HasBits binary64 x bits
+PhaseShows (PolarityUndefined code x) bits = HasBits binary64 x bits
 
 abbrev pub OffsetShows : Offset → ℕ → Type 0
 OffsetShows OffsetNotFinite bits = Unit

@@ -5,8 +5,8 @@ use macm::Observation;
 ghost use mathlib.Core.Path.{_≡_};
 ghost use Rattle.track.specs.Range.{rangeOf};
 ghost use Rattle.track.specs.Row.{rowOf, Bounded};
-ghost use Rattle.track.specs.Condition.{polarityOf, flagsOf, conditionOf};
-ghost use Rattle.track.specs.Shown.{phaseOf, offsetOf, PhaseShows, OffsetShows};
+ghost use Rattle.track.specs.Condition.{polarityCode, polarityOf, flagsOf, conditionOf};
+ghost use Rattle.track.specs.Shown.{cyclesWith, phaseOf, offsetOf, PhaseShows, OffsetShows};
 
 // A row for the plot: range in metres and rate in hertz.
 #[repr(C)]
@@ -15,14 +15,20 @@ pub struct PlotRow {
     pub rate: f64,
 }
 
-// PHASE as it may be shown.
+// PHASE as it may be shown, with what its polarity says of it. Cycles are the double with the bits of the message: nothing is added to them.
 pub enum Phase {
     // An observation of the old form, or one whose CONDITION says that PHASE is not valid.
     Withheld,
     // An infinity or a NaN.
     NotFinite,
-    // The double with the bits of the message.
-    Cycles(f64),
+    // Nobody knows whether half a cycle is due.
+    PolarityUnknown(f64),
+    // Not corrected since lock: nothing is due.
+    NotCorrected(f64),
+    // Half a cycle is due.
+    DueHalf(f64),
+    // A polarity code that 000 does not define, and the cycles.
+    PolarityUndefined(u8, f64),
 }
 
 // OFFSET as it may be shown.
@@ -88,7 +94,19 @@ pub fn plot_row(pseudorange: u32, rate: i32) -> PlotRow
 
 // ---- phase and OFFSET
 
-// PHASE, as the form, then the flag, then the exponent allow: the exponent is the eleven bits under the sign.
+// The case of cycles with this polarity.
+fn cycles_with(polarity: Polarity, cycles: f64) -> Phase
+    ensures { λ r. ⌜ r ≡ cyclesWith polarity cycles ⌝ }
+{
+    match polarity {
+        Polarity::NotKnown => Phase::PolarityUnknown(cycles),
+        Polarity::NotCorrected => Phase::NotCorrected(cycles),
+        Polarity::NeedsHalfCycle => Phase::DueHalf(cycles),
+        Polarity::Undefined(code) => Phase::PolarityUndefined(code, cycles),
+    }
+}
+
+// PHASE, as the form, then the flag, then the exponent allow, and only then by its polarity: the exponent is the eleven bits under the sign.
 pub fn phase_of(form: Form, observation: Observation) -> Phase
     ensures { λ r. ⌜ (r ≡ phaseOf form observation) × PhaseShows r (observation .phase) ⌝ }
 {
@@ -103,7 +121,7 @@ pub fn phase_of(form: Form, observation: Observation) -> Phase
         return Phase::NotFinite;
     }
     let cycles = f64::from_bits(bits);
-    Phase::Cycles(cycles)
+    cycles_with(polarity_of(observation.condition), cycles)
 }
 
 // OFFSET, as its exponent allows: the eight bits under the sign.
@@ -120,10 +138,11 @@ pub fn offset_of(header: Header) -> Offset
 
 // ---- CONDITION
 
-// 1 to 4 and 6 are undefined, and from 8 on no code fits the field's three bits.
-fn polarity_of(code: u8) -> Polarity
-    ensures { λ r. ⌜ r ≡ polarityOf code ⌝ }
+// By the code in bits 8 to 10: 1 to 4 and 6 are undefined, and from 8 on no code fits three bits.
+fn polarity_of(condition: u16) -> Polarity
+    ensures { λ r. ⌜ r ≡ polarityOf (polarityCode condition) ⌝ }
 {
+    let code = (condition / 256 % 8) as u8;
     match code {
         0 => Polarity::NotKnown,
         5 => Polarity::NotCorrected,
@@ -136,7 +155,7 @@ fn polarity_of(code: u8) -> Polarity
 fn flags_of(condition: u16) -> Flags
     ensures { λ r. ⌜ r ≡ flagsOf condition ⌝ }
 {
-    let polarity = polarity_of((condition / 256 % 8) as u8);
+    let polarity = polarity_of(condition);
     let maker = (condition / 4096) as u8;
     Flags {
         satellite_health: condition % 2 == 1,

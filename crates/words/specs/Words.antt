@@ -25,12 +25,12 @@ use Rattle.reason.specs.declared.Reason.the-variants.{Refused as NoReason, Insi
 use Rattle.stream.specs.declared.Answer.{Answer}
 use Rattle.stream.specs.declared.Answer.the-variants.{Refused, NeedsMore, Message, End}
 use Rattle.track.specs.declared.Phase.{Phase}
-use Rattle.track.specs.declared.Phase.the-variants.{Withheld, NotFinite, Cycles}
+use Rattle.track.specs.declared.Phase.the-variants.{Withheld, NotFinite, PolarityUnknown, NotCorrected, DueHalf, PolarityUndefined}
 use Rattle.novatel.specs.declared.Record.{Record}
 use Rattle.novatel.specs.declared.Reading as novatel
 use Rattle.novatel.specs.declared.Reading.the-variants.{Refused as NoRecord, Read}
 use Rattle.novatel.specs.declared.Correction.{Correction}
-use Rattle.novatel.specs.declared.Correction.the-variants.{Refused as NotCorrected, Corrected}
+use Rattle.novatel.specs.declared.Correction.the-variants.{Refused as NoCorrection, Corrected}
 use Rattle.words.specs.declared.HeaderWords.{HeaderWords}
 use Rattle.words.specs.declared.ObservationWords.{ObservationWords}
 use Rattle.words.specs.declared.HeadWords.{HeadWords}
@@ -143,11 +143,15 @@ answerWords NeedsMore offered = record { refusal = 0; kind = 0; length = 0; gap 
 answerWords (Message n g t) offered = record { refusal = 0; kind = 1; length = n; gap = g; taken = t }
 answerWords (End g) offered = record { refusal = 0; kind = 2; length = 0; gap = g; taken = 0 }
 
--- kind 0 is withheld, 1 not finite, 2 has cycles
+-- kind 0 is withheld, 1 not finite; the others have cycles and the code of their polarity: 2 is unknown, 3 not corrected since lock, 4 due half a cycle,
+-- 5 undefined
 abbrev pub phaseWords : Phase → PhaseWords
-phaseWords Withheld = record { kind = 0; cycles = ofBits binary64 0 }
-phaseWords NotFinite = record { kind = 1; cycles = ofBits binary64 0 }
-phaseWords (Cycles x) = record { kind = 2; cycles = x }
+phaseWords Withheld = record { kind = 0; code = 0; cycles = ofBits binary64 0 }
+phaseWords NotFinite = record { kind = 1; code = 0; cycles = ofBits binary64 0 }
+phaseWords (PolarityUnknown x) = record { kind = 2; code = 0; cycles = x }
+phaseWords (NotCorrected x) = record { kind = 3; code = 5; cycles = x }
+phaseWords (DueHalf x) = record { kind = 4; code = 7; cycles = x }
+phaseWords (PolarityUndefined code x) = record { kind = 5; code = code; cycles = x }
 
 abbrev pub recordOut : ℕ → Record → RecordWords
 recordOut k r =
@@ -173,5 +177,5 @@ recordWords (NoRecord r) = recordOut (numberOf r) noRecord
 recordWords (Read r) = recordOut 0 r
 
 abbrev pub adrWords : Correction → AdrWords
-adrWords (NotCorrected r) = record { refusal = numberOf r; rolls = pos 0; adr = pos 0 }
+adrWords (NoCorrection r) = record { refusal = numberOf r; rolls = pos 0; adr = pos 0 }
 adrWords (Corrected rolls adr) = record { refusal = 0; rolls = rolls; adr = adr }

@@ -83,6 +83,7 @@ pub struct AnswerWords {
 #[repr(C)]
 pub struct PhaseWords {
     pub kind: u64,
+    pub code: u64,
     pub cycles: f64,
 }
 
@@ -346,14 +347,26 @@ pub fn answer_words(reply: stream::Reply, offered: u64) -> AnswerWords
     }
 }
 
+fn cycles_of(kind: u64, code: u8, cycles: f64) -> PhaseWords
+    ensures { λ r. ⌜ r ≡ record { kind = kind; code = code; cycles = cycles } ⌝ }
+{
+    PhaseWords {
+        kind,
+        code: code as u64,
+        cycles,
+    }
+}
+
 pub fn phase_words(phase: Phase) -> PhaseWords
     ensures { λ r. ⌜ r ≡ phaseWords phase ⌝ }
 {
-    let cycles = 0.0;
     match phase {
-        Phase::Withheld => PhaseWords { kind: 0, cycles },
-        Phase::NotFinite => PhaseWords { kind: 1, cycles },
-        Phase::Cycles(cycles) => PhaseWords { kind: 2, cycles },
+        Phase::Withheld => cycles_of(0, 0, 0.0),
+        Phase::NotFinite => cycles_of(1, 0, 0.0),
+        Phase::PolarityUnknown(cycles) => cycles_of(2, 0, cycles),
+        Phase::NotCorrected(cycles) => cycles_of(3, 5, cycles),
+        Phase::DueHalf(cycles) => cycles_of(4, 7, cycles),
+        Phase::PolarityUndefined(code, cycles) => cycles_of(5, code, cycles),
     }
 }
 

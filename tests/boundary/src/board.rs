@@ -99,12 +99,16 @@ pub struct Written {
 
 pub const WITHHELD: u64 = 0;
 pub const NOT_FINITE: u64 = 1;
-pub const CYCLES: u64 = 2;
+pub const POLARITY_UNKNOWN: u64 = 2;
+pub const NOT_CORRECTED: u64 = 3;
+pub const DUE_HALF: u64 = 4;
+pub const POLARITY_UNDEFINED: u64 = 5;
 
 #[repr(C)]
 #[derive(Clone, Copy, Debug, Default)]
 pub struct Cycles {
     pub kind: u64,
+    pub code: u64,
     pub cycles: f64,
 }
 

@@ -31,6 +31,12 @@ const SYNC: u64 = ACCEPTED + board::SYNC;
 const CUT_UNKNOWN: u64 = ACCEPTED + board::CUT_UNKNOWN;
 const CUT_SHORT: u64 = ACCEPTED + board::CUT_SHORT;
 const CHECKSUM: u64 = ACCEPTED + board::CHECKSUM;
+const WITHHELD: u64 = ACCEPTED + board::WITHHELD;
+const NOT_FINITE: u64 = ACCEPTED + board::NOT_FINITE;
+const POLARITY_UNKNOWN: u64 = ACCEPTED + board::POLARITY_UNKNOWN;
+const NOT_CORRECTED: u64 = ACCEPTED + board::NOT_CORRECTED;
+const DUE_HALF: u64 = ACCEPTED + board::DUE_HALF;
+const POLARITY_UNDEFINED: u64 = ACCEPTED + board::POLARITY_UNDEFINED;
 
 pub const KINDS: [Kind; 18] = [
     Kind { name: "check", attempt: check, outcomes: &[1, 2, 3, 4, ACCEPTED] },
@@ -43,7 +49,7 @@ pub const KINDS: [Kind; 18] = [
     Kind { name: "to_old", attempt: to_old, outcomes: &[1, 2, 3, 4, 7, 6, ACCEPTED] },
     Kind { name: "next", attempt: next, outcomes: &[12, ACCEPTED] },
     Kind { name: "why", attempt: why, outcomes: &[12, INSIDE, GIVEN, SYNC, CUT_UNKNOWN, CUT_SHORT, CHECKSUM] },
-    Kind { name: "numbers", attempt: numbers, outcomes: &[ACCEPTED, ACCEPTED + 1, ACCEPTED + 2] },
+    Kind { name: "numbers", attempt: numbers, outcomes: &[WITHHELD, NOT_FINITE, POLARITY_UNKNOWN, NOT_CORRECTED, DUE_HALF, POLARITY_UNDEFINED] },
     Kind { name: "feed", attempt: feed, outcomes: &[8, 9, 10, 11, NEEDS_MORE, MESSAGE] },
     Kind { name: "finish", attempt: finish, outcomes: &[8, 9, MESSAGE, END] },
     Kind { name: "run", attempt: whole_run, outcomes: &[ACCEPTED] },

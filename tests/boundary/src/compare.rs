@@ -171,12 +171,7 @@ pub fn numbers(form: u64, observation: board::Observation) -> Verdict<u64> {
     within("rate within 2/10^11 Hz", row.rate, fields.rate.into(), 4, 11, 2)?;
     let phase = board::phase(form, observation);
     let form = if form == board::OLD { reader::Form::Old } else { reader::Form::New };
-    let expected = match reader::phase(form, &fields) {
-        reader::Phase::Withheld => (board::WITHHELD, 0),
-        reader::Phase::NotFinite => (board::NOT_FINITE, 0),
-        reader::Phase::Cycles(cycles) => (board::CYCLES, cycles.to_bits()),
-    };
-    same("phase", (phase.kind, phase.cycles.to_bits()), expected)?;
+    same("phase", (phase.kind, phase.code, phase.cycles.to_bits()), expected::phase(reader::phase(form, &fields)))?;
     Ok(phase.kind)
 }
 

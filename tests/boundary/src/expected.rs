@@ -51,6 +51,21 @@ pub fn observed(answer: Result<reader::Observation, Refusal>) -> board::Observed
     }
 }
 
+/// The kind, the code and the cycles' bits, by which doubles are compared.
+pub fn phase(phase: reader::Phase) -> (u64, u64, u64) {
+    let (cycles, polarity) = match phase {
+        reader::Phase::Withheld => return (board::WITHHELD, 0, 0),
+        reader::Phase::NotFinite => return (board::NOT_FINITE, 0, 0),
+        reader::Phase::Cycles(cycles, polarity) => (cycles.to_bits(), polarity),
+    };
+    match polarity {
+        reader::Polarity::Unknown => (board::POLARITY_UNKNOWN, 0, cycles),
+        reader::Polarity::NotCorrected => (board::NOT_CORRECTED, 5, cycles),
+        reader::Polarity::DueHalf => (board::DUE_HALF, 7, cycles),
+        reader::Polarity::Undefined(code) => (board::POLARITY_UNDEFINED, code.into(), cycles),
+    }
+}
+
 pub fn found(answer: Result<reader::Found, Refusal>) -> board::Found {
     match answer {
         Ok(reader::Found::Message(given)) => {

@@ -39,7 +39,7 @@ fn the_first_new_message_reads_as_its_breakout_says() {
     assert_eq!((refusal, observation.sid, observation.condition, observation.cn0), (0, 2, 0x053F, 36));
     assert_eq!((observation.pseudorange, observation.rate, observation.lock), (2_058_626_148, 9_879_081, 617_800));
     let phase = board::phase(board::NEW, observation);
-    assert_eq!((phase.kind, format!("{:.9}", phase.cycles)), (board::CYCLES, "-461291.428234963".to_string()));
+    assert_eq!((phase.kind, phase.code, format!("{:.9}", phase.cycles)), (board::NOT_CORRECTED, 5, "-461291.428234963".to_string()));
     assert_eq!(board::read_observation(message, 1).observation.rate, -29_159_042);
 }
 

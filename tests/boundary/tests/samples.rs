@@ -144,22 +144,26 @@ fn every_rounding_of_a_range() {
     }
 }
 
+/// Every CONDITION, in turn with the phases at the edges of what is finite: the form and the flag decide first, then the exponent, then the polarity.
 #[test]
 fn phases() {
-    let seen = |form, condition, phase| {
-        let observation = board::Observation { condition, phase, ..Default::default() };
-        let kind = numbers(form, observation).unwrap();
-        (kind, board::phase(form, observation).cycles.to_bits())
+    let kinds = [2, 5, 5, 5, 5, 3, 5, 4];
+    let finite = [0, 1, 1 << 63, 0x3FE0_0000_0000_0000, 0xC11C_27AD_B683_39E0, 0x7FEF_FFFF_FFFF_FFFF, 0xFFEF_FFFF_FFFF_FFFF];
+    let not_finite = [0x7FF0_0000_0000_0000, 0xFFF0_0000_0000_0000, 0x7FF0_0000_0000_0001, 0x7FF8_0000_0000_0000, 0xFFFF_FFFF_FFFF_FFFF];
+    let seen = |form, condition, bits| {
+        let observation = board::Observation { condition, phase: bits, ..Default::default() };
+        let phase = board::phase(form, observation);
+        assert_eq!(numbers(form, observation), Ok(phase.kind));
+        (phase.kind, phase.code, phase.cycles.to_bits())
     };
-    let minus_zero = 1 << 63;
-    assert_eq!(seen(board::NEW, 0x053F, minus_zero), (board::CYCLES, minus_zero));
-    assert_eq!(seen(board::NEW, 0x0004, 1), (board::CYCLES, 1));
-    assert_eq!(seen(board::NEW, 0xFFFB, minus_zero), (board::WITHHELD, 0));
-    assert_eq!(seen(board::OLD, 0xFFFF, 0x7FF8_0000_0000_0000), (board::WITHHELD, 0));
-    for not_finite in [0x7FF0_0000_0000_0000, 0xFFF0_0000_0000_0000, 0x7FF0_0000_0000_0001, 0xFFFF_FFFF_FFFF_FFFF] {
-        assert_eq!(seen(board::NEW, 0x0004, not_finite), (board::NOT_FINITE, 0));
+    for condition in 0..=0xFFFF {
+        let (valid, code, turn) = (condition & 4 != 0, condition >> 8 & 7, condition as usize);
+        let (cycles, none) = (finite[turn % finite.len()], not_finite[turn % not_finite.len()]);
+        assert_eq!(seen(board::NEW, condition, cycles), if valid { (kinds[code as usize], code, cycles) } else { (0, 0, 0) });
+        assert_eq!(seen(board::NEW, condition, none), (u64::from(valid), 0, 0));
+        assert_eq!(seen(board::OLD, condition, cycles), (0, 0, 0));
+        assert_eq!(seen(board::OLD, condition, none), (0, 0, 0));
     }
-    assert_eq!(seen(board::NEW, 0x0004, 0x7FEF_FFFF_FFFF_FFFF), (board::CYCLES, 0x7FEF_FFFF_FFFF_FFFF));
 }
 
 #[test]

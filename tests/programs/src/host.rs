@@ -1,17 +1,27 @@
-//! What the C host `tests/host/recording.c` has to print: of the published messages, of S12, of A then B, and of nothing.
+//! What the C host `tests/host/recording.c` has to print: of the published messages, of every case of a phase, of S12, of A then B, and of nothing.
 
-use reader::{divide, phase, range_um, work, Form, Message, Observation, Phase};
+use reader::{divide, phase, range_um, work, Form, Message, Observation, Phase, Polarity};
 
+use crate::sample::every_phase;
 use crate::time;
 use crate::vectors::{NEW, OLD, PUBLISHED};
 
 fn observed(form: Form, observation: &Observation) -> String {
-    let cycles = match phase(form, observation) {
+    let shown = match phase(form, observation) {
         Phase::Withheld => "withheld".to_string(),
         Phase::NotFinite => "not finite".to_string(),
-        Phase::Cycles(cycles) => format!("{cycles:.6}"),
+        Phase::Cycles(cycles, polarity) => format!("{cycles:.6} {}", due(polarity)),
     };
-    format!("  sid {} range_um {} rate {} phase {cycles}\n", observation.sid, range_um(observation.pseudorange), observation.rate)
+    format!("  sid {} range_um {} rate {} phase {shown}\n", observation.sid, range_um(observation.pseudorange), observation.rate)
+}
+
+fn due(polarity: Polarity) -> String {
+    match polarity {
+        Polarity::Unknown => "polarity unknown".to_string(),
+        Polarity::NotCorrected => "not corrected since lock".to_string(),
+        Polarity::DueHalf => "due half a cycle".to_string(),
+        Polarity::Undefined(code) => format!("polarity undefined {code}"),
+    }
 }
 
 fn recording(stream: &[u8]) -> String {
@@ -29,6 +39,7 @@ fn recording(stream: &[u8]) -> String {
 
 pub fn host() -> String {
     let published = PUBLISHED.map(|(name, stream)| format!("{}\n{}", name.trim_end_matches(".bin"), recording(stream))).concat();
+    let phases = format!("phases\n{}", recording(&every_phase()));
     let piped = [("S12", [b"MAC", NEW].concat()), ("A then B", [NEW, OLD].concat()), ("nothing", Vec::new())];
-    published + &piped.map(|(name, stream)| format!("{name}, from standard input\n{}", recording(&stream))).concat()
+    published + &phases + &piped.map(|(name, stream)| format!("{name}, from standard input\n{}", recording(&stream))).concat()
 }

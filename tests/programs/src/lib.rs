@@ -7,12 +7,12 @@ mod vectors;
 mod why;
 
 pub use host::host;
-pub use sample::{every_reason, recording};
+pub use sample::{every_phase, every_reason, recording};
 pub use started::{offered, printed, started};
 pub use vectors::vectors;
 pub use why::{why, why_lines, WHY_HEADING, WHY_LONGEST};
 
-use reader::{divide, lock_ms, phase, range_um, standing, Form, Header, Message, Observation, Phase, Standing};
+use reader::{divide, lock_ms, phase, range_um, standing, Form, Header, Message, Observation, Phase, Polarity, Standing};
 
 pub const LISTING_HEADING: &str = "at bytes form obs time\n";
 pub const ROWS_HEADING: &str = "at time form type sid cn0 condition range phase bits polarity rate lock\n";
@@ -81,36 +81,42 @@ fn row(position: usize, header: Header, observation: &Observation) -> String {
     let Observation { sid, cn0, condition, phase: bits, .. } = *observation;
     let range = range_um(observation.pseudorange);
     let rate = i64::from(observation.rate);
+    let (cycles, polarity) = shown(phase(header.form(), observation));
     let sign = if rate < 0 { "-" } else { "" };
     format!(
-        "{position} {} {form} {sid} {cn0} {condition:04X} {}.{:06} {} {bits:016X} {} {sign}{}.{:04} {}\n",
+        "{position} {} {form} {sid} {cn0} {condition:04X} {}.{:06} {cycles} {bits:016X} {polarity} {sign}{}.{:04} {}\n",
         time(header),
         range / 1_000_000,
         range % 1_000_000,
-        shown(phase(header.form(), observation)),
-        polarity(header.form(), condition),
         rate.abs() / 10_000,
         rate.abs() % 10_000,
         lock_ms(observation.lock),
     )
 }
 
-fn polarity(form: Form, condition: u16) -> String {
-    match (form, condition >> 8 & 7) {
-        (Form::Old, _) => "-".to_string(),
-        (Form::New, 0) => "unknown".to_string(),
-        (Form::New, 5) => "uncorrected".to_string(),
-        (Form::New, 7) => "half".to_string(),
-        (Form::New, code) => format!("undefined{code}"),
+/// The phase and the word for its polarity.
+fn shown(phase: Phase) -> (String, String) {
+    match phase {
+        Phase::Withheld => ("withheld".to_string(), "-".to_string()),
+        Phase::NotFinite => ("nonfinite".to_string(), "-".to_string()),
+        Phase::Cycles(cycles, polarity) => (in_cycles(cycles), word(polarity)),
     }
 }
 
-fn shown(phase: Phase) -> String {
-    match phase {
-        Phase::Withheld => "withheld".to_string(),
-        Phase::NotFinite => "nonfinite".to_string(),
-        Phase::Cycles(cycles) if cycles.abs() >= 9_007_199_254_740_992.0 => "wide".to_string(),
-        Phase::Cycles(cycles) => thousandths(cycles),
+fn in_cycles(cycles: f64) -> String {
+    if cycles.abs() >= 9_007_199_254_740_992.0 {
+        "wide".to_string()
+    } else {
+        thousandths(cycles)
+    }
+}
+
+fn word(polarity: Polarity) -> String {
+    match polarity {
+        Polarity::Unknown => "unknown".to_string(),
+        Polarity::NotCorrected => "uncorrected".to_string(),
+        Polarity::DueHalf => "half".to_string(),
+        Polarity::Undefined(code) => format!("undefined{code}"),
     }
 }
 

@@ -1,5 +1,5 @@
-//! Recordings to try the programs with: a minute of four satellites in both forms, with what a recorder meets besides, and one for every reason why no
-//! message is given.
+//! Recordings to try the programs with: a minute of four satellites in both forms, with what a recorder meets besides; one for every reason why no
+//! message is given; and one for every case of a phase.
 
 use reader::{Header, Message, Observation};
 
@@ -72,4 +72,20 @@ pub fn every_reason() -> Vec<u8> {
         bytes
     };
     [b"MAC", &new[..], b"\r\nMX MAX MACX", &with(14, 0x02), &old, &with(8, 0xAF), b"MACM\x02"].concat()
+}
+
+/// A message of the new form and one of the old with the same observations, SIDs from 1 on: cycles under each polarity code; under each code a PHASE that
+/// is not valid; under code 7 what is not finite, both zeros, half a cycle, the first that is wide, and the largest double.
+pub fn every_phase() -> Vec<u8> {
+    let (time, offset) = (245_370_000, 0x407C_1000);
+    let cycles = 0xC11C_27AD_B683_39E0;
+    let none = [f64::INFINITY.to_bits(), f64::NEG_INFINITY.to_bits(), 0x7FF8_0000_0000_0000];
+    let edges = [0.0, -0.0, 0.5, 9_007_199_254_740_992.0, f64::MAX].map(f64::to_bits);
+    let coded = (0..8).map(|code| (code << 8 | 0x3F, cycles)).chain((0..8).map(|code| (code << 8 | 0x3B, cycles)));
+    let phases = coded.chain(none.into_iter().chain(edges).map(|bits| (0x073F, bits)));
+    let observed = |(sid, (condition, phase))| Observation { sid, condition, cn0: 40, phase, pseudorange: 2_058_626_148, rate: 9_879_081, lock: 617_800 };
+    let observations: Vec<_> = (1..).zip(phases).map(observed).collect();
+    let new = Message { header: Header::New { signal: 0, tfom: 0, time, offset }, observations: observations.clone() };
+    let old = Message { header: Header::Old { version: 2, time: time + 500, offset }, observations };
+    [new.to_bytes(), old.to_bytes()].concat()
 }

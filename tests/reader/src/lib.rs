@@ -13,7 +13,7 @@ mod work;
 
 pub use division::{divide, message_at, next, Division, Found, Given};
 pub use message::{check, checksum, read_header, read_observation, set, start, to_new, to_old, Form, Head, Header, Message, Observation};
-pub use numbers::{lock_ms, phase, plot_row, range_um, Phase};
+pub use numbers::{lock_ms, phase, plot_row, range_um, Phase, Polarity};
 pub use rangecmp::{adr_512ths, corrected_adr, range_mm, read_record, write_record, Record, RECORD_BYTES};
 pub use reason::{reasons, why, Reason};
 pub use stream::{feed, finish, standing, Answer, Standing, State, STREAM_BYTES, SUMMED_BYTES};

@@ -18,22 +18,42 @@ pub fn lock_ms(lock: u32) -> u64 {
     u64::from(lock) * 2
 }
 
+/// A phase, and what is due by PHASE Polarity State, which is left to whoever computes with the cycles.
 #[derive(Clone, Copy, Debug, PartialEq)]
 pub enum Phase {
     Withheld,
     NotFinite,
-    Cycles(f64),
+    Cycles(f64, Polarity),
+}
+
+/// 264-21's table 5, bits 8 to 10.
+#[derive(Clone, Copy, Debug, PartialEq)]
+pub enum Polarity {
+    Unknown,
+    NotCorrected,
+    DueHalf,
+    Undefined(u8),
+}
+
+impl Polarity {
+    pub fn from_code(code: u8) -> Polarity {
+        match code {
+            0 => Polarity::Unknown,
+            5 => Polarity::NotCorrected,
+            7 => Polarity::DueHalf,
+            code => Polarity::Undefined(code),
+        }
+    }
 }
 
 pub fn phase(form: Form, observation: &Observation) -> Phase {
-    if form == Form::Old || observation.condition & 0b100 == 0 {
-        return Phase::Withheld;
+    let [high, low] = observation.condition.to_be_bytes();
+    let cycles = f64::from_bits(observation.phase);
+    match form {
+        Form::New if low & 4 == 4 && cycles.is_finite() => Phase::Cycles(cycles, Polarity::from_code(high & 7)),
+        Form::New if low & 4 == 4 => Phase::NotFinite,
+        _ => Phase::Withheld,
     }
-    let exponent = observation.phase >> 52 & 0x7FF;
-    if exponent == 0x7FF {
-        return Phase::NotFinite;
-    }
-    Phase::Cycles(f64::from_bits(observation.phase))
 }
 
 /// Range in metres and rate in hertz, each the double nearest to the quotient of whole numbers.

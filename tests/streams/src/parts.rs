@@ -41,6 +41,15 @@ fn header(random: &mut Random) -> Header {
     }
 }
 
+/// Every polarity code about as often as any other.
+fn condition(random: &mut Random) -> u16 {
+    if random.once_in(2) {
+        random.edgy() as u16
+    } else {
+        u16::from_be_bytes([random.below(8) as u8, random.byte()])
+    }
+}
+
 pub fn observation(random: &mut Random) -> Observation {
     let phase = match random.below(6) {
         0 => 0x7FF0_0000_0000_0000 | random.edgy() >> 12,
@@ -50,7 +59,7 @@ pub fn observation(random: &mut Random) -> Observation {
     };
     Observation {
         sid: random.byte(),
-        condition: random.edgy() as u16,
+        condition: condition(random),
         cn0: random.byte(),
         phase,
         pseudorange: random.edgy() as u32,

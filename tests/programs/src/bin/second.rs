@@ -16,8 +16,9 @@ fn main() -> io::Result<()> {
         "host" => programs::host().into_bytes(),
         "sample" => programs::recording(),
         "every-reason" => programs::every_reason(),
+        "every-phase" => programs::every_phase(),
         _ => {
-            eprintln!("second: one of listing, rows, why, vectors, host, sample, every-reason");
+            eprintln!("second: one of listing, rows, why, vectors, host, sample, every-reason, every-phase");
             std::process::exit(2);
         }
     };

@@ -1,0 +1,99 @@
+//! The observations are hostile enough: the slips that people make with a phase and its polarity are told from the right reader by them.
+
+use reader::{phase, Form, Observation, Phase, Polarity};
+use streams::{observation, Random};
+
+const SEED: u64 = 57;
+const OBSERVATIONS: u64 = 4000;
+
+/// Doubles are told apart by their bits: zero has two signs.
+fn same(one: Phase, other: Phase) -> bool {
+    match (one, other) {
+        (Phase::Cycles(left, of), Phase::Cycles(right, by)) => left.to_bits() == right.to_bits() && of == by,
+        _ => one == other,
+    }
+}
+
+/// The number of observations of the new form that a slip shows another phase of. It is told the observation and the right phase.
+fn noticed(slip: impl Fn(&Observation, Phase) -> Phase) -> usize {
+    (0..OBSERVATIONS)
+        .filter(|case| {
+            let observation = observation(&mut Random::new(SEED + case));
+            let right = phase(Form::New, &observation);
+            !same(slip(&observation, right), right)
+        })
+        .count()
+}
+
+fn assert_noticed(slip: &str, times: usize) {
+    println!("seed {SEED}: {slip}: noticed in {times} of {OBSERVATIONS} observations");
+    assert!(times >= OBSERVATIONS as usize / 100, "{slip}: noticed in {times} of {OBSERVATIONS} observations only");
+}
+
+/// A slip that changes what is said of cycles alone.
+fn noticed_cycles(slip: fn(f64, Polarity) -> (f64, Polarity)) -> usize {
+    noticed(|_, right| match right {
+        Phase::Cycles(cycles, polarity) => {
+            let (cycles, polarity) = slip(cycles, polarity);
+            Phase::Cycles(cycles, polarity)
+        }
+        none => none,
+    })
+}
+
+fn polarity(observation: &Observation) -> Polarity {
+    Polarity::from_code((observation.condition >> 8 & 7) as u8)
+}
+
+#[test]
+fn the_frame_itself_is_right() {
+    assert_eq!(noticed(|_, right| right), 0);
+    assert_eq!(noticed_cycles(|cycles, polarity| (cycles, polarity)), 0);
+}
+
+#[test]
+fn half_a_cycle_added() {
+    let slip = |cycles, polarity| if polarity == Polarity::DueHalf { (cycles + 0.5, polarity) } else { (cycles, polarity) };
+    assert_noticed("half a cycle added", noticed_cycles(slip));
+}
+
+#[test]
+fn due_half_taken_for_corrected() {
+    let slip = |cycles, polarity| if polarity == Polarity::DueHalf { (cycles, Polarity::NotCorrected) } else { (cycles, polarity) };
+    assert_noticed("due half taken for corrected", noticed_cycles(slip));
+}
+
+#[test]
+fn polarity_before_finite() {
+    let slip = |observation: &Observation, right| match (right, polarity(observation)) {
+        (Phase::NotFinite, Polarity::DueHalf) => Phase::Cycles(f64::from_bits(observation.phase), Polarity::DueHalf),
+        _ => right,
+    };
+    assert_noticed("polarity before finite", noticed(slip));
+}
+
+#[test]
+fn polarity_before_the_flag() {
+    let slip = |observation: &Observation, right| match (right, polarity(observation)) {
+        (Phase::Withheld, Polarity::DueHalf) => Phase::Cycles(f64::from_bits(observation.phase), Polarity::DueHalf),
+        _ => right,
+    };
+    assert_noticed("polarity before the flag", noticed(slip));
+}
+
+#[test]
+fn the_sign_of_zero_lost() {
+    assert_noticed("the sign of zero lost", noticed_cycles(|cycles, polarity| (cycles + 0.0, polarity)));
+}
+
+#[test]
+fn code_six_as_known() {
+    let slip = |cycles, polarity| if polarity == Polarity::Undefined(6) { (cycles, Polarity::DueHalf) } else { (cycles, polarity) };
+    assert_noticed("code 6 as known", noticed_cycles(slip));
+}
+
+#[test]
+fn the_undefined_code_lost() {
+    let slip = |cycles, polarity| if let Polarity::Undefined(_) = polarity { (cycles, Polarity::Undefined(0)) } else { (cycles, polarity) };
+    assert_noticed("the undefined code lost", noticed_cycles(slip));
+}
