@@ -5,6 +5,7 @@ pub mod Reasons
 pub mod Apart
 pub mod Printed
 pub mod Ranges
+pub mod Phases
 pub mod Records
 pub mod WrongPrograms
 pub mod NearestAway

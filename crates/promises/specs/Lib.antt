@@ -7,6 +7,7 @@ pub mod Given
 pub mod Reason
 pub mod Work
 pub mod Range
+pub mod Phase
 pub mod Record
 pub mod Numbers
 pub mod Printed

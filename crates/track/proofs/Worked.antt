@@ -8,9 +8,9 @@ use Rattle.units.specs.Units.{lockOf}
 use Rattle.macm.specs.declared.Form.{Form}
 use Rattle.macm.specs.declared.Form.the-variants.{New, Old}
 use Rattle.macm.specs.declared.Observation.{Observation}
-use Rattle.track.specs.declared.Phase.the-variants.{Withheld, NotFinite, Cycles}
+use Rattle.track.specs.declared.Phase.the-variants.{Withheld, NotFinite, PolarityUnknown, NotCorrected, DueHalf, PolarityUndefined}
 use Rattle.track.specs.declared.Offset.the-variants.{Metres}
-use Rattle.track.specs.declared.Polarity.the-variants.{NotCorrected}
+use Rattle.track.specs.declared.Polarity.the-variants.{NotCorrected as Uncorrected}
 use Rattle.track.specs.declared.Condition.the-variants.{Flagged}
 use Rattle.track.specs.Condition.{polarityOf, flagsOf, conditionOf}
 use Rattle.track.specs.Shown.{phaseOf, offsetOf}
@@ -20,12 +20,12 @@ use Rattle.track.specs.Row.{rowOf}
 abbrev new : Form
 new = New 0 0
 
--- the first observation of 000's figure 1, with another PHASE
-abbrev observed : ℕ → Observation
-observed bits = record { sid = 2; condition = 0x053F; cn0 = 0x24; phase = bits; pseudorange = 0x7AB42464; rate = pos 9879081; lock = lockOf 617800 }
+-- the first observation of 000's figure 1, with another CONDITION and PHASE
+abbrev observed : ℕ → ℕ → Observation
+observed condition bits = record { sid = 2; condition = condition; cn0 = 0x24; phase = bits; pseudorange = 0x7AB42464; rate = pos 9879081; lock = lockOf 617800 }
 
 -- 000's table 6
-pub condition : conditionOf new (observed 0) ≡ Flagged (record {
+pub condition : conditionOf new (observed 0x053F 0) ≡ Flagged (record {
   «satellite_health» = true;
   «pr_validity» = true;
   «phase_validity» = true;
@@ -34,7 +34,7 @@ pub condition : conditionOf new (observed 0) ≡ Flagged (record {
   «phase_iono_corrected» = true;
   «pr_tropo_corrected» = false;
   «phase_tropo_corrected» = false;
-  polarity = NotCorrected;
+  polarity = Uncorrected;
   «jam_detect» = false;
   maker = 0;
 })
@@ -42,18 +42,38 @@ unfolding flagsOf polarityOf
 condition = refl
 
 -- -461291.428234963, which is -247653949774287 / 2 ^ 29
-pub phase : phaseOf new (observed 0xC11C27ADB68339E0) ≡ Cycles (fin true 247653949774287 (negsuc 28))
-unfolding ofBits
+pub phase : phaseOf new (observed 0x053F 0xC11C27ADB68339E0) ≡ NotCorrected (fin true 247653949774287 (negsuc 28))
+unfolding ofBits polarityOf
 phase = refl
 
-pub negative-zero : phaseOf new (observed 0x8000000000000000) ≡ Cycles (fin true 0 (pos 0))
-unfolding ofBits
+-- the other codes: 0, 6 and 7, of which the last leaves a half and negative zero as they are
+pub unknown : phaseOf new (observed 0x0004 0x3FE0000000000000) ≡ PolarityUnknown (fin false 1 (negsuc 0))
+unfolding ofBits polarityOf
+unknown = refl
+
+pub undefined : phaseOf new (observed 0x0604 0x3FE0000000000000) ≡ PolarityUndefined 6 (fin false 1 (negsuc 0))
+unfolding ofBits polarityOf
+undefined = refl
+
+pub due-half : phaseOf new (observed 0x0704 0x3FE0000000000000) ≡ DueHalf (fin false 1 (negsuc 0))
+unfolding ofBits polarityOf
+due-half = refl
+
+pub negative-zero : phaseOf new (observed 0x0704 0x8000000000000000) ≡ DueHalf (fin true 0 (pos 0))
+unfolding ofBits polarityOf
 negative-zero = refl
 
-pub infinite : phaseOf new (observed 0xFFF0000000000000) ≡ NotFinite
+-- whatever the code
+pub infinite : phaseOf new (observed 0x0704 0xFFF0000000000000) ≡ NotFinite
 infinite = refl
 
-pub old-form : phaseOf (Old 2) (observed 0xC11C27ADB68339E0) ≡ Withheld
+pub nan-under-seven : phaseOf new (observed 0x0704 0x7FF8000000000000) ≡ NotFinite
+nan-under-seven = refl
+
+pub not-valid : phaseOf new (observed 0x07FB 0x7FF8000000000000) ≡ Withheld
+not-valid = refl
+
+pub old-form : phaseOf (Old 2) (observed 0x053F 0xC11C27ADB68339E0) ≡ Withheld
 old-form = refl
 
 -- 4033 / 1024 m
@@ -62,7 +82,7 @@ unfolding ofBits
 offset = refl
 
 -- that observation's, 20572.02 km, and the longest
-pub published-range : rangeOf (observed 0 .pseudorange) ≡ 20572019767066
+pub published-range : rangeOf (observed 0 0 .pseudorange) ≡ 20572019767066
 unfolding rangeOf
 published-range = refl
 
