@@ -9,7 +9,9 @@ use lib.Ieee.{Float, nan, inf, fin, Format, binary32, binary64, hid, ones, top, 
 use lib.Ieee.Fits.{and-l}
 use lib.Ieee.Scale.{finite}
 use lib.Ieee.Bits.{nanBits-is, toBits-ofBits}
-use Rattle.track.specs.Shown.{exponent, HasBits}
+use Rattle.track.specs.declared.Polarity.{Polarity}
+use Rattle.track.specs.declared.Polarity.the-variants.{NotKnown, NotCorrected, NeedsHalfCycle, Undefined}
+use Rattle.track.specs.Shown.{exponent, HasBits, PhaseShows, cyclesWith}
 
 -- the field, taken either way round
 exponent-is : (f : Format) (b : ℕ) → b % top f / hid f ≡ ones f → exponent f b ≡ ones f
@@ -40,7 +42,14 @@ module _ (f : Format) (b : ℕ) (h : exponent f b ≡ ones f → ⊥) where
       let same : toBits f (ofBits f b) ≡ b = toBits-ofBits f b l (subst (λ (t : Bool). T (not t)) (nanBits-is f b) no-nan) in
       (same, is-finite f (ofBits f b) (λ e. h (ap (exponent f) (sym same) ∙ e)))
 
--- and the other way round
+-- so do cycles, whatever their polarity
+pub cycles-show : (p : Polarity) (x : Float) (b : ℕ) → HasBits binary64 x b → PhaseShows (cyclesWith p x) b
+cycles-show NotKnown x b h = h
+cycles-show NotCorrected x b h = h
+cycles-show NeedsHalfCycle x b h = h
+cycles-show (Undefined code) x b h = h
+
+-- the field, from the one to the other
 exponent-of : (f : Format) (b : ℕ) → exponent f b ≡ ones f → b % top f / hid f ≡ ones f
 exponent-of binary32 b e = omega arith
 exponent-of binary64 b e = omega arith

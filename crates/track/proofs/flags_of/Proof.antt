@@ -5,9 +5,6 @@ use Rattle.track.specs.Condition.{flagsOf}
 use Rattle.track.proofs.flags_of.Statement.{statement}
 use Rattle.track.proofs.flags_of.Tie as tie
 
-cast-polarity-of : tie.Need-cast-polarity-of
-cast-polarity-of c = search needs
-
 polarity-of-requires : tie.Need-polarity-of-requires
 polarity-of-requires c κs = search needs
 
@@ -19,4 +16,4 @@ unfolding flagsOf
 returns c = rw (c .polarity-of .ensures, div-one)
 
 pub flags-of-spec : {M : Type 1} → statement M
-flags-of-spec = tie.close (tie.spec cast-polarity-of polarity-of-requires cast-maker returns)
+flags-of-spec = tie.close (tie.spec polarity-of-requires cast-maker returns)

@@ -1,8 +1,12 @@
 -- `track::polarity_of` meets its contract: each arm of the match is the definition at its code. Assumes nothing.
+use borrow.Author.Needs.{needs}
 use borrow.Author.Tests.{ne-eqb}
 use Rattle.track.specs.Condition.{polarityOf}
 use Rattle.track.proofs.polarity_of.Statement.{statement}
 use Rattle.track.proofs.polarity_of.Tie as tie
+
+cast-code : tie.Need-cast-code
+cast-code c = search needs
 
 returns : tie.Need-returns
 unfolding polarityOf
@@ -27,4 +31,4 @@ returns-5 c =
     simp (ne-eqb _ _ (rest .0 .0 .1), ne-eqb _ _ (rest .0 .1), ne-eqb _ _ (rest .1))
 
 pub polarity-of-spec : {M : Type 1} → statement M
-polarity-of-spec = tie.close (tie.spec returns returns-2 returns-3 returns-4 returns-5)
+polarity-of-spec = tie.close (tie.spec cast-code returns returns-2 returns-3 returns-4 returns-5)
