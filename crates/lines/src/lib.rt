@@ -89,7 +89,10 @@ fn put_phase(out: &mut [u8], at: usize, phase: Phase, bits: u64) -> usize
     match phase {
         Phase::Withheld => text::put_all(out, at, b"withheld"),
         Phase::NotFinite => text::put_all(out, at, b"nonfinite"),
-        _ => text::put_cycles(out, at, bits),
+        Phase::PolarityUnknown(_)
+        | Phase::NotCorrected(_)
+        | Phase::DueHalf(_)
+        | Phase::PolarityUndefined(_, _) => text::put_cycles(out, at, bits),
     }
 }
 
@@ -98,13 +101,13 @@ fn put_polarity(out: &mut [u8], at: usize, phase: Phase) -> usize
     ensures { λ r. ⌜ Puts (now (out .entry)) at (polarityText phase) r (now (out .exit)) ⌝ }
 {
     match phase {
+        Phase::Withheld | Phase::NotFinite => text::put_all(out, at, b"- "),
         Phase::PolarityUnknown(_) => text::put_all(out, at, b"unknown "),
         Phase::NotCorrected(_) => text::put_all(out, at, b"uncorrected "),
         Phase::DueHalf(_) => text::put_all(out, at, b"half "),
         Phase::PolarityUndefined(code, _) => {
             text::put_count(out, at, b"undefined", code as u64, b' ')
         }
-        _ => text::put_all(out, at, b"- "),
     }
 }
 

@@ -19,9 +19,6 @@ put-hex-requires c κs = search needs
 put-requires-2 : tie.Need-put-requires-2
 put-requires-2 c κs = search needs
 
-condition-of-requires : tie.Need-condition-of-requires
-condition-of-requires c κs = search needs
-
 put-polarity-requires : tie.Need-put-polarity-requires
 put-polarity-requires c κs = search needs
 
@@ -29,7 +26,7 @@ same-length : tie.Need-same-length
 same-length c = search needs
 
 returns : tie.Need-returns
-returns c = rw (← (c .before .before .before .before .before .before .before .before .before .before .before .before .before .before .before .before .before .before .before .before .phase-of .ensures .0), ← (c .before .before .before .condition-of .ensures)) (puts-join (c .before .before .before .before .before .before .before .before .before .before .before .before .before .before .before .before .before .before .before .put-phase .ensures) (puts-join (c .before .before .before .before .before .before .before .before .before .before .before .before .before .before .before .put .ensures) (puts-join (c .before .before .before .before .before .before .before .before .before .before .before .put-hex .ensures) (puts-join (c .before .before .before .before .before .before .before .put2 .ensures) (c .before .before .put-polarity .ensures)))))
+returns c = rw (← (c .before .before .before .before .before .before .before .before .before .before .before .before .before .before .before .before .before .before .before .before .phase-of .ensures .0)) (puts-join (c .before .before .before .before .before .before .before .before .before .before .before .before .before .before .before .before .before .before .put-phase .ensures) (puts-join (c .before .before .before .before .before .before .before .before .before .before .before .before .before .before .put .ensures) (puts-join (c .before .before .before .before .before .before .before .before .before .before .put-hex .ensures) (puts-join (c .before .before .before .before .before .before .put2 .ensures) (c .before .before .put-polarity .ensures)))))
 
 pub put-shown-spec : {M : Type 1} → statement M
 put-shown-spec =
@@ -40,7 +37,6 @@ put-shown-spec =
     put-requires
     put-hex-requires
     put-requires-2
-    condition-of-requires
     put-polarity-requires
     same-length
     returns)
