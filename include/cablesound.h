@@ -62,15 +62,16 @@ enum {
     CS_CHECKSUM = 6     /* the checksum is off; value: the exclusive or of byte 5 up to and with the checksum, never 0 */
 };
 
-/* The kind of a phase, in the order in which they are tried. The first two have no cycles, the others the double with PHASE's bits, to which nothing was
- * added: what CONDITION's polarity code says of it is the caller's to do, and README.md has what that is in each case. */
+/* The kind of a phase, in the order in which they are tried. The first two have no cycles. The others have the double with PHASE's bits, to which nothing
+ * was added: what the polarity code in CONDITION asks for is left to who computes with the cycles. Whether half a cycle is to be added or taken away
+ * 264-21 does not say; the two differ by a whole cycle, so keep to one of them as long as a lock lasts. */
 enum {
-    CS_WITHHELD = 0,          /* the old form, or CONDITION's bit 2 is clear: no phase to use */
-    CS_NOT_FINITE = 1,        /* PHASE is an infinity or a NaN: no phase to use */
-    CS_POLARITY_UNKNOWN = 2,  /* code 0: nobody knows whether half a cycle is due */
+    CS_WITHHELD = 0,          /* the old form, or CONDITION's bit 2 is clear: there is no phase to take */
+    CS_NOT_FINITE = 1,        /* PHASE is an infinity or a NaN: there is no phase to take */
+    CS_POLARITY_UNKNOWN = 2,  /* code 0: nobody knows whether half a cycle is due: reckon with both */
     CS_NOT_CORRECTED = 3,     /* code 5: not corrected since lock, when it was correct: nothing is due */
-    CS_DUE_HALF = 4,          /* code 7: correct now, and half a cycle is due, once */
-    CS_POLARITY_UNDEFINED = 5 /* code 1 to 4 or 6: 264-21 does not say what is due */
+    CS_DUE_HALF = 4,          /* code 7: correct now, and half a cycle is due, which is not in the cycles: adjust them, once */
+    CS_POLARITY_UNDEFINED = 5 /* code 1 to 4 or 6, which 264-21 does not define: do as with an unknown one */
 };
 
 /* One reader's state. Keep it for the whole stream and write nothing into it; cs_fresh gives a new one. ended is 0, or anything else.

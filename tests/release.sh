@@ -28,6 +28,7 @@ cd "$work" || exit 2
 ! command -v rt >/dev/null || fail "rt is still there"
 
 cmp -s "$release/samples/sortie.macm" "$sample.macm" || fail "the sample recording is another"
+"$release/cablesound" rows "$release/samples/phases.macm" | cmp -s - "$root/samples/phases.rows" || fail "rows of every phase prints something else"
 "$release/cablesound" list "$release/samples/sortie.macm" | cmp -s - "$sample.listing" || fail "list prints something else"
 "$release/cablesound" rows <"$sample.macm" | cmp -s - "$sample.rows" || fail "rows prints something else"
 "$release/cablesound" why "$root/crates/why/stdin" | cmp -s - "$root/crates/why/stdout" || fail "why prints something else"

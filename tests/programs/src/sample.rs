@@ -83,7 +83,8 @@ pub fn every_phase() -> Vec<u8> {
     let edges = [0.0, -0.0, 0.5, 9_007_199_254_740_992.0, f64::MAX].map(f64::to_bits);
     let coded = (0..8).map(|code| (code << 8 | 0x3F, cycles)).chain((0..8).map(|code| (code << 8 | 0x3B, cycles)));
     let phases = coded.chain(none.into_iter().chain(edges).map(|bits| (0x073F, bits)));
-    let observed = |(sid, (condition, phase))| Observation { sid, condition, cn0: 40, phase, pseudorange: 2_058_626_148, rate: 9_879_081, lock: 617_800 };
+    let observed =
+        |(sid, (condition, phase))| Observation { sid, condition, cn0: 40, phase, pseudorange: 2_058_626_148, rate: 9_879_081, lock: 617_800 };
     let observations: Vec<_> = (1..).zip(phases).map(observed).collect();
     let new = Message { header: Header::New { signal: 0, tfom: 0, time, offset }, observations: observations.clone() };
     let old = Message { header: Header::Old { version: 2, time: time + 500, offset }, observations };
