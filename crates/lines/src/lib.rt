@@ -96,7 +96,7 @@ fn put_phase(out: &mut [u8], at: usize, phase: Phase, bits: u64) -> usize
     }
 }
 
-// The word for the polarity of a phase that has cycles.
+// The word for the phase's polarity: none stands beside one that has no cycles.
 fn put_polarity(out: &mut [u8], at: usize, phase: Phase) -> usize
     ensures { λ r. ⌜ Puts (now (out .entry)) at (polarityText phase) r (now (out .exit)) ⌝ }
 {

@@ -7,6 +7,7 @@ use native.Mathlib.Omega.{arith}
 use native.Mathlib.Nat.{mod-lt}
 use lib.Dec.{T, eqb}
 use lib.Ieee.{Float, binary64, ones, ofBits, toBits}
+use lib.Ieee.Bits.{is-true}
 use lib.Ieee.Scale.{finite}
 use borrow.Author.Tests.{eqb-true, eqb-false, ne-eqb}
 use Rattle.macm.specs.declared.Form.{Form}
@@ -14,7 +15,6 @@ use Rattle.macm.specs.declared.Form.the-variants.{New, Old}
 use Rattle.macm.specs.declared.Observation.{Observation}
 use Rattle.track.specs.declared.Phase.{Phase}
 use Rattle.track.specs.declared.Phase.the-variants.{Withheld, NotFinite, PolarityUnknown, NotCorrected, DueHalf, PolarityUndefined}
-use Rattle.track.specs.declared.Polarity.{Polarity}
 use Rattle.track.specs.declared.Polarity.the-variants.{NotKnown, NotCorrected as Uncorrected, NeedsHalfCycle, Undefined as Unnamed}
 use Rattle.track.specs.Condition.{bit, polarityCode, polarityOf}
 use Rattle.track.specs.Shown.{exponent, allOnes, HasBits, cyclesWith, phaseOf}
@@ -58,11 +58,7 @@ phase-answered (New signal tfom) o h = go (bit 2 (o .condition)) (allOnes binary
         let kept = finite-if (o .phase) (h .phase) g in
         under (polarityCode (o .condition)) (double o) (New signal tfom) o (mod-lt (o .condition / 2 ^ 8) (omega arith)) (record { flagged = subst T (sym e) tt; is-finite = kept .1; coded = refl; same-double = refl; same-bits = kept .0 })
 
--- ---- no other case does
-is-true : (t : Bool) → T t → t ≡ true
-is-true true h = refl
-is-true false h = absurd h
-
+-- ---- no other case holds
 shown : (k : ℕ) (x : Float) (f : Form) (o : Observation) → Cycles k x f o → cyclesWith (polarityOf k) x ≡ phaseOf f o
 shown k x (Old version) o c = absurd (c .flagged)
 shown k x (New signal tfom) o c =

@@ -13,10 +13,14 @@ use Rattle.track.specs.declared.Polarity.{Polarity}
 use Rattle.track.specs.declared.Polarity.the-variants.{NotKnown, NotCorrected, NeedsHalfCycle, Undefined}
 use Rattle.track.specs.Shown.{exponent, HasBits, PhaseShows, cyclesWith}
 
--- the field, taken either way round
+-- the field, taken either way round, is all ones at once
 exponent-is : (f : Format) (b : ℕ) → b % top f / hid f ≡ ones f → exponent f b ≡ ones f
 exponent-is binary32 b e = omega arith
 exponent-is binary64 b e = omega arith
+
+exponent-of : (f : Format) (b : ℕ) → exponent f b ≡ ones f → b % top f / hid f ≡ ones f
+exponent-of binary32 b e = omega arith
+exponent-of binary64 b e = omega arith
 
 -- the patterns of the infinities and of `nan` have a field that is all ones
 is-finite : (f : Format) (x : Float) → (exponent f (toBits f x) ≡ ones f → ⊥) → T (finite x)
@@ -42,17 +46,12 @@ module _ (f : Format) (b : ℕ) (h : exponent f b ≡ ones f → ⊥) where
       let same : toBits f (ofBits f b) ≡ b = toBits-ofBits f b l (subst (λ (t : Bool). T (not t)) (nanBits-is f b) no-nan) in
       (same, is-finite f (ofBits f b) (λ e. h (ap (exponent f) (sym same) ∙ e)))
 
--- so do cycles, whatever their polarity
+-- cycles have their double's bits, whatever the polarity
 pub cycles-show : (p : Polarity) (x : Float) (b : ℕ) → HasBits binary64 x b → PhaseShows (cyclesWith p x) b
 cycles-show NotKnown x b h = h
 cycles-show NotCorrected x b h = h
 cycles-show NeedsHalfCycle x b h = h
 cycles-show (Undefined code) x b h = h
-
--- the field, from the one to the other
-exponent-of : (f : Format) (b : ℕ) → exponent f b ≡ ones f → b % top f / hid f ≡ ones f
-exponent-of binary32 b e = omega arith
-exponent-of binary64 b e = omega arith
 
 pub not-finite : (f : Format) (b : ℕ) → exponent f b ≡ ones f → finite (ofBits f b) ≡ false
 unfolding ofBits ofFields
