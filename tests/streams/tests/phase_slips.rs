@@ -41,8 +41,12 @@ fn noticed_cycles(slip: fn(f64, Polarity) -> (f64, Polarity)) -> usize {
     })
 }
 
-fn polarity(observation: &Observation) -> Polarity {
-    Polarity::from_code((observation.condition >> 8 & 7) as u8)
+/// A slip that goes by code 7 before it asks what makes a phase none.
+fn noticed_before(none: Phase) -> usize {
+    noticed(|observation, right| match observation.condition >> 8 & 7 {
+        7 if right == none => Phase::Cycles(f64::from_bits(observation.phase), Polarity::DueHalf),
+        _ => right,
+    })
 }
 
 #[test]
@@ -65,20 +69,12 @@ fn due_half_taken_for_corrected() {
 
 #[test]
 fn polarity_before_finite() {
-    let slip = |observation: &Observation, right| match (right, polarity(observation)) {
-        (Phase::NotFinite, Polarity::DueHalf) => Phase::Cycles(f64::from_bits(observation.phase), Polarity::DueHalf),
-        _ => right,
-    };
-    assert_noticed("polarity before finite", noticed(slip));
+    assert_noticed("polarity before finite", noticed_before(Phase::NotFinite));
 }
 
 #[test]
 fn polarity_before_the_flag() {
-    let slip = |observation: &Observation, right| match (right, polarity(observation)) {
-        (Phase::Withheld, Polarity::DueHalf) => Phase::Cycles(f64::from_bits(observation.phase), Polarity::DueHalf),
-        _ => right,
-    };
-    assert_noticed("polarity before the flag", noticed(slip));
+    assert_noticed("polarity before the flag", noticed_before(Phase::Withheld));
 }
 
 #[test]
