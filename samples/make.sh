@@ -1,6 +1,6 @@
 #!/bin/sh
-# Makes what is stored of the second reader's output: the sample recordings, the listing of one and the rows of two, and what the programs have to print for
-# rt and the C host for its test. `samples/make.sh check` compares instead, and fails where a file differs.
+# Makes what is stored of the second reader's output: the sample recordings, the listing of one and the rows of two, and what the programs have to print
+# for rt and the C host for its test. `samples/make.sh check` compares instead, and fails where a file differs.
 set -u
 root=$(cd "$(dirname "$0")/.." && pwd -P) || exit 2
 cd "$root/tests" || exit 2

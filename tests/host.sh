@@ -1,7 +1,7 @@
 #!/bin/sh
-# The C host of tests/host/ reads the published messages, every case of a phase, S12, and A then B through the C boundary, compiled plainly and with sanitizers, and prints
-# what tests/host/expected.txt says; another one prints the reasons that the program `why` prints, a third one the published range record; the header is
-# taken by C and by C++. Needs target/staticlib/libboard.a, which `rt staticlib board` leaves.
+# The C host of tests/host/ reads the published messages, every case of a phase, S12, and A then B through the C boundary, compiled plainly and with
+# sanitizers, and prints what tests/host/expected.txt says; another one prints the reasons that the program `why` prints, a third one the published range
+# record; the header is taken by C and by C++. Needs target/staticlib/libboard.a, which `rt staticlib board` leaves.
 set -u
 root=$(cd "$(dirname "$0")/.." && pwd -P) || exit 2
 cd "$root" || exit 2

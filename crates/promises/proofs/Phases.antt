@@ -30,6 +30,10 @@ finite-if b l e = has-bits binary64 b (eqb-false (exponent binary64 b) (ones bin
 finite-only-if : (b : ℕ) → T (finite (ofBits binary64 b)) → allOnes binary64 b ≡ false
 finite-only-if b t = ne-eqb (exponent binary64 b) (ones binary64) (λ e. subst T (not-finite binary64 b e) t)
 
+-- what `phaseOf` answers in the new form, by the flag and by whether the exponent is all ones
+abbrev tried : Observation → Bool → Bool → Phase
+tried o v n = cond v (cond n NotFinite (cyclesWith (polarityOf (polarityCode (o .condition))) (double o))) Withheld
+
 -- ---- the case that is answered holds
 under : (k : ℕ) (x : Float) (f : Form) (o : Observation) → k < 8 → Cycles k x f o → Answered (cyclesWith (polarityOf k) x) f o
 unfolding polarityOf
@@ -51,7 +55,7 @@ pub phase-answered : (f : Form) (o : Observation) → ObservationFits o → Answ
 phase-answered (Old version) o h = λ never. never
 phase-answered (New signal tfom) o h = go (bit 2 (o .condition)) (allOnes binary64 (o .phase)) refl refl
   where
-    go : (v n : Bool) → bit 2 (o .condition) ≡ v → allOnes binary64 (o .phase) ≡ n → Answered (cond v (cond n NotFinite (cyclesWith (polarityOf (polarityCode (o .condition))) (double o))) Withheld) (New signal tfom) o
+    go : (v n : Bool) → bit 2 (o .condition) ≡ v → allOnes binary64 (o .phase) ≡ n → Answered (tried o v n) (New signal tfom) o
     go false n e g = λ t. subst T e t
     go true true e g = (subst T (sym e) tt, λ t. subst T (not-finite binary64 (o .phase) (eqb-true (exponent binary64 (o .phase)) (ones binary64) g)) t)
     go true false e g =
@@ -65,7 +69,7 @@ shown k x (New signal tfom) o c =
     let flag = is-true (bit 2 (o .condition)) (c .flagged) in
     let exponents = finite-only-if (o .phase) (c .is-finite) in
     ap₂ (λ n y. cyclesWith (polarityOf n) y) (sym (c .coded)) (c .same-double)
-    ∙ ap₂ (λ v n. cond v (cond n NotFinite (cyclesWith (polarityOf (polarityCode (o .condition))) (double o))) Withheld) (sym flag) (sym exponents)
+    ∙ ap₂ (tried o) (sym flag) (sym exponents)
 
 unnamed : (k : ℕ) → Undefined k → polarityOf k ≡ Unnamed k
 unfolding polarityOf
@@ -80,13 +84,13 @@ unfolding polarityOf
 phase-only Withheld (Old version) o h a = refl
 phase-only Withheld (New signal tfom) o h a = go (bit 2 (o .condition)) refl
   where
-    go : (v : Bool) → bit 2 (o .condition) ≡ v → Withheld ≡ cond v (cond (allOnes binary64 (o .phase)) NotFinite (cyclesWith (polarityOf (polarityCode (o .condition))) (double o))) Withheld
+    go : (v : Bool) → bit 2 (o .condition) ≡ v → Withheld ≡ tried o v (allOnes binary64 (o .phase))
     go true e = absurd (a (subst T (sym e) tt))
     go false e = refl
 phase-only NotFinite (Old version) o h a = absurd (a .0)
 phase-only NotFinite (New signal tfom) o h a = go (bit 2 (o .condition)) (allOnes binary64 (o .phase)) (is-true (bit 2 (o .condition)) (a .0)) refl
   where
-    go : (v n : Bool) → v ≡ true → allOnes binary64 (o .phase) ≡ n → NotFinite ≡ cond v (cond n NotFinite (cyclesWith (polarityOf (polarityCode (o .condition))) (double o))) Withheld
+    go : (v n : Bool) → v ≡ true → allOnes binary64 (o .phase) ≡ n → NotFinite ≡ tried o v n
     go v true e g = rw e
     go v false e g = absurd (a .1 (finite-if (o .phase) (h .phase) g .1))
 phase-only (PolarityUnknown x) f o h a = shown 0 x f o a

@@ -147,7 +147,8 @@ fn every_rounding_of_a_range() {
 /// Every CONDITION, in turn with the phases at the edges of what is finite: the form and the flag decide first, then the exponent, then the polarity.
 #[test]
 fn phases() {
-    let kinds = [2, 5, 5, 5, 5, 3, 5, 4];
+    let undefined = board::POLARITY_UNDEFINED;
+    let kinds = [board::POLARITY_UNKNOWN, undefined, undefined, undefined, undefined, board::NOT_CORRECTED, undefined, board::DUE_HALF];
     let finite = [0, 1, 1 << 63, 0x3FE0_0000_0000_0000, 0xC11C_27AD_B683_39E0, 0x7FEF_FFFF_FFFF_FFFF, 0xFFEF_FFFF_FFFF_FFFF];
     let not_finite = [0x7FF0_0000_0000_0000, 0xFFF0_0000_0000_0000, 0x7FF0_0000_0000_0001, 0x7FF8_0000_0000_0000, 0xFFFF_FFFF_FFFF_FFFF];
     let seen = |form, condition, bits| {

@@ -41,7 +41,7 @@ fn header(random: &mut Random) -> Header {
     }
 }
 
-/// Every polarity code about as often as any other.
+/// Half of them with every polarity code as often as any other.
 fn condition(random: &mut Random) -> u16 {
     if random.once_in(2) {
         random.edgy() as u16
