@@ -21,7 +21,7 @@ use Rattle.track.specs.Shown.{exponent, allOnes, HasBits, cyclesWith, phaseOf}
 use Rattle.track.proofs.SameBits.{has-bits, not-finite}
 use Rattle.words.specs.Words.{phaseWords}
 use Rattle.promises.specs.Fields.{ObservationFits}
-use Rattle.promises.specs.Phase.{Flagged, double, Finite, Undefined, Cycles, Answered}
+use Rattle.promises.specs.Phase.{Flagged, double, Finite, Undefined, Cycles, Answered, KindTable}
 
 -- ---- what is finite, both ways
 finite-if : (b : ℕ) → b < 2 ^ 64 → allOnes binary64 b ≡ false → HasBits binary64 (ofBits binary64 b) b
@@ -97,6 +97,18 @@ phase-only (PolarityUnknown x) f o h a = shown 0 x f o a
 phase-only (NotCorrected x) f o h a = shown 5 x f o a
 phase-only (DueHalf x) f o h a = shown 7 x f o a
 phase-only (PolarityUndefined k x) f o h a = ap (λ p. cyclesWith p x) (sym (unnamed k (a .0))) ∙ shown k x f o (a .1)
+
+-- ---- for C: what each kind says
+pub kind-by-number : (f : Form) (o : Observation) → ObservationFits o → KindTable f o (phaseWords (phaseOf f o) .kind)
+kind-by-number f o h = go (phaseOf f o) (phase-answered f o h)
+  where
+    go : (p : Phase) → Answered p f o → KindTable f o (phaseWords p .kind)
+    go Withheld a = inl (refl, a)
+    go NotFinite a = inr (a .0, inl (refl, a .1))
+    go (PolarityUnknown x) a = inr (a .flagged, inr (a .is-finite, inl (refl, a .coded)))
+    go (NotCorrected x) a = inr (a .flagged, inr (a .is-finite, inr (inl (refl, a .coded))))
+    go (DueHalf x) a = inr (a .flagged, inr (a .is-finite, inr (inr (inl (refl, a .coded)))))
+    go (PolarityUndefined k x) a = inr (a .1 .flagged, inr (a .1 .is-finite, inr (inr (inr (refl, subst Undefined (sym (a .1 .coded)) (a .0))))))
 
 -- ---- from a case CONDITION's code is given back, and PHASE's bits; without cycles there is neither
 pub code-back : (p : Phase) (f : Form) (o : Observation) → Answered p f o → Flagged f o → Finite o → (phaseWords p .code ≡ polarityCode (o .condition)) × (toBits binary64 (phaseWords p .cycles) ≡ o .phase)

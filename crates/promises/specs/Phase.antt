@@ -44,3 +44,12 @@ Answered (PolarityUnknown x) f o = Cycles 0 x f o
 Answered (NotCorrected x) f o = Cycles 5 x f o
 Answered (DueHalf x) f o = Cycles 7 x f o
 Answered (PolarityUndefined k x) f o = Undefined k × Cycles k x f o
+
+-- the number n of a kind for C, each with what it says, in the order of the tests
+abbrev pub KindTable : Form → Observation → ℕ → Type 0
+KindTable f o n =
+    let code = polarityCode (o .condition) in
+    ((n ≡ 0) × (Flagged f o → ⊥))
+    ⊎ (Flagged f o
+    × (((n ≡ 1) × (Finite o → ⊥))
+    ⊎ (Finite o × (((n ≡ 2) × (code ≡ 0)) ⊎ ((n ≡ 3) × (code ≡ 5)) ⊎ ((n ≡ 4) × (code ≡ 7)) ⊎ ((n ≡ 5) × Undefined code)))))
