@@ -8,6 +8,8 @@ ghost use Rattle.track.specs.Row.{rowOf, Bounded};
 ghost use Rattle.track.specs.Condition.{polarityCode, polarityOf, flagsOf, conditionOf};
 ghost use Rattle.track.specs.Shown.{cyclesWith, phaseOf, offsetOf, PhaseShows, OffsetShows};
 
+mod narrow;
+
 // A row for the plot: range in metres and rate in hertz.
 #[repr(C)]
 pub struct PlotRow {
@@ -78,7 +80,7 @@ pub enum Condition {
 pub fn range_of(pseudorange: u32) -> u64
     ensures { λ r. ⌜ r ≡ rangeOf pseudorange ⌝ }
 {
-    (pseudorange as u64 * 149896229 + 7500) / 15000
+    narrow::range(pseudorange)
 }
 
 // The row of PR and RATE. A range is below 2^53 micrometres and RATE below 2^31, so both are doubles exactly, and each division rounds once.

@@ -144,6 +144,18 @@ fn every_rounding_of_a_range() {
     }
 }
 
+/// A range goes by PR's halves: every one as the high and as the low half, beside others at the edges.
+#[test]
+fn every_half_of_a_range() {
+    for half in 0..=0xFFFF {
+        for other in [0, 1, 7_499, 7_500, 0x7FFF, 0x8000, 0xFFFE, 0xFFFF] {
+            for pseudorange in [half << 16 | other, other << 16 | half] {
+                assert_eq!(board::range_um(pseudorange), reader::range_um(pseudorange), "PR {pseudorange}");
+            }
+        }
+    }
+}
+
 /// Every CONDITION, in turn with the phases at the edges of what is finite: the form and the flag decide first, then the exponent, then the polarity.
 #[test]
 fn phases() {
