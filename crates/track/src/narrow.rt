@@ -24,7 +24,7 @@ fn sixteenfold(number: u64) -> u64
     eightfold + eightfold
 }
 
-// The 9,993 of each count, which are 39 * 256 and 9: sixteen sums, as many as a product of a high half would have to be doubled.
+// The 9,993 of each count, which are 39 * 256 and 9: sixteen sums, as often as a product of the high half would have to be doubled.
 fn whole_micrometres(counts: u32) -> u64
     ensures { λ r. ⌜ r ≡ 9993 * counts ⌝ }
 {
@@ -45,6 +45,7 @@ fn rounded_share(high: u16, low: u16) -> u64
     product(5369, high) as u64 + rounded as u64
 }
 
+// Of PR's halves, which are what the multiplication takes.
 pub(crate) fn range(pseudorange: u32) -> u64
     ensures { λ r. ⌜ r ≡ rangeOf pseudorange ⌝ }
 {
