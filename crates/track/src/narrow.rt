@@ -1,5 +1,5 @@
-// The range by the steps of a board that multiplies 16 bits by 16 into 32 and divides numbers of 32 bits: besides there are sums of 64 bits, and nothing
-// else. `tests/narrow.sh` holds everything here to that.
+// The range by the steps of a board that multiplies 16 bits by 16 into 32 and divides numbers of 32 bits: besides there are sums of 64 bits, and
+// nothing else. `tests/narrow.sh` holds everything here to that.
 //
 // In a count of PR light goes 149896229 / 15,000 micrometres, which is 9,993 and 1,229 / 15,000.
 ghost use Prim.Native.Nat.{_+_, _*_, _/_, _^_, _<_};

@@ -1,5 +1,5 @@
-//! The observations are hostile enough: the slips that people make with a phase and its polarity, and with the narrow steps of a range, are told from the
-//! right reader by them.
+//! The observations are hostile enough: the slips that people make with a phase and its polarity, and with the narrow steps of a range, are told
+//! from the right reader by them.
 
 use reader::{phase, range_um, Form, Observation, Phase, Polarity};
 use streams::{observation, Random};
