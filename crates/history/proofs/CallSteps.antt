@@ -1,0 +1,45 @@
+-- What a call answers and leaves, by what its tests say. Assumes nothing.
+use Prim.Native.Nat.{ℕ, _≤_, _<_}
+use mathlib.Core.Path.{_≡_, refl, sym, ap, _∙_}
+use mathlib.Core.Bool.{true, false, cond}
+use mathlib.Core.List.{List, [], _++_}
+use native.Mathlib.Nat.{zero-add}
+use lib.ListN.{length, drop}
+use borrow.Author.Tests.{lt-ltb, le-ltb}
+use Rattle.refusal.specs.declared.Refusal.{Refusal}
+use Rattle.refusal.specs.declared.Refusal.the-variants.{SmallBuffer}
+use Rattle.macm.specs.declared.Header.{Header}
+use Rattle.macm.specs.declared.Head.{Head}
+use Rattle.macm.specs.declared.Head.the-variants.{Refused as NoHead, Read}
+use Rattle.history.specs.declared.Breaks.the-variants.{Refused, Listed}
+use Rattle.history.specs.Words.{typeIn}
+use Rattle.history.specs.Appearances.{isOf, appearancesUpTo, appearancesIn}
+use Rattle.history.specs.Breaks.{numbersOf, afterAll, begun}
+use Rattle.history.specs.Calls.{listNumbers, Leaves, callBy}
+use Rattle.history.specs.Steps.{Takes}
+
+module _ (m ws list : List ℕ) (head : Head) where
+  pub call-refused : (r : Refusal) → head ≡ NoHead r → Leaves (callBy head m ws list) (Refused r) ws list
+  unfolding callBy
+  call-refused r e = rw e (record { answer = refl; words = refl; list = refl })
+
+  module _ (h : Header) (n : ℕ) (read : head ≡ Read h n) where
+    pub call-without-room : length list < listNumbers → Leaves (callBy head m ws list) (Refused SmallBuffer) ws list
+    unfolding callBy
+    call-without-room l = rw (read, lt-ltb _ _ l) (record { answer = refl; words = refl; list = refl })
+
+    pub call-passes-over : listNumbers ≤ length list → isOf (typeIn ws) (h .form) ≡ false → Leaves (callBy head m ws list) (Listed 0) ws list
+    unfolding callBy appearancesIn afterAll numbersOf
+    call-passes-over l e = rw (read, le-ltb _ _ l, e) (record { answer = refl; words = refl; list = refl })
+
+    pub call-takes : (r : ℕ) (ws′ list′ : List ℕ) → listNumbers ≤ length list → isOf (typeIn ws) (h .form) ≡ true → Takes ws list 0 (appearancesUpTo n (h .form) (h .time) n m) r ws′ list′ → Leaves (callBy head m ws list) (Listed r) ws′ list′
+    unfolding callBy appearancesIn
+    call-takes r ws′ list′ l e t =
+        let kept = afterAll (begun ws) (appearancesUpTo n (h .form) (h .time) n m) in
+        let numbers = numbersOf (kept .entries) in
+        rw (read, le-ltb _ _ l, e)
+        (record {
+          answer = ap Listed (t .counted ∙ zero-add (length (kept .entries)));
+          words = t .words;
+          list = t .listed ∙ ap (λ k. numbers ++ drop k list) (zero-add (length numbers));
+        })

@@ -1,0 +1,3 @@
+pub mod Takes
+pub mod CallSteps
+pub mod Determined

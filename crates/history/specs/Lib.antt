@@ -1,0 +1,5 @@
+pub mod Words
+pub mod Appearances
+pub mod Breaks
+pub mod Calls
+pub mod Steps
