@@ -41,6 +41,12 @@ cs-why-determined κs a z z′ w w′ p q = search both
 pub cs-fresh-determined : Determined board.cs_fresh.ended board.cs_fresh.Reads.Learnt
 cs-fresh-determined κs a z z′ w w′ p q = search both
 
+pub cs-breaks-fresh-determined : Determined board.cs_breaks_fresh.ended board.cs_breaks_fresh.Reads.Learnt
+cs-breaks-fresh-determined κs a z z′ w w′ p q = search both
+
+pub cs-breaks-determined : Determined board.cs_breaks.ended board.cs_breaks.Reads.Learnt
+cs-breaks-determined κs a z z′ w w′ p q = search both
+
 pub cs-range-um-determined : Determined board.cs_range_um.ended board.cs_range_um.Reads.Learnt
 cs-range-um-determined κs a z z′ w w′ p q = search both
 

@@ -17,6 +17,8 @@ ghost use Rattle.compose.specs.Convert.{convertOf, convertBytes};
 ghost use Rattle.refusal.specs.Written.{writtenNumber};
 ghost use Rattle.division.specs.Plain.{nextOf};
 ghost use Rattle.reason.specs.Reason.{reasonOf};
+ghost use Rattle.history.specs.Words.{freshWords};
+ghost use Rattle.history.specs.Calls.{nextCall};
 ghost use Rattle.stream.specs.Reader.{freshState, feedCall, finishCall};
 ghost use Rattle.track.specs.Range.{rangeOf};
 ghost use Rattle.track.specs.Row.{rowOf, Bounded};
@@ -25,7 +27,7 @@ ghost use Rattle.units.specs.Units.{lockOf, lockMillis, millisIn};
 ghost use Rattle.novatel.specs.Deviations.{rangeDeviation, adrDeviation};
 ghost use Rattle.novatel.specs.Entries.{readingOf, writingOf, writingBytes, correctionOf};
 ghost use Rattle.words.specs.Words.{formIn, headerIn, observationIn, recordIn, headWords, observedWords, writtenWords, foundWords, reasonWords, phaseWords, recordWords, adrWords};
-ghost use Rattle.board.specs.Lent.{Finds};
+ghost use Rattle.board.specs.Lent.{Finds, Lists};
 
 // ---- one message
 
@@ -130,6 +132,26 @@ pub extern "C" fn cs_finish(state: &mut State, window: &mut [u8], output: &mut [
     let reply = stream::finish(before, window, output);
     *state = reply.state;
     words::answer_words(reply, 0)
+}
+
+// ---- where lock broke
+
+#[no_mangle]
+pub extern "C" fn cs_breaks_fresh(history: &mut [u64; history::WORDS], signal: u8)
+    ensures { λ _. ⌜ now (history .exit) ≡ freshWords signal ⌝ }
+{
+    history::fresh(history, signal);
+}
+
+#[no_mangle]
+pub extern "C" fn cs_breaks(
+    message: &[u8],
+    history: &mut [u64; history::WORDS],
+    list: &mut [u64],
+) -> words::ListedWords
+    ensures { λ r. ⌜ Lists (nextCall (now (message .entry)) (now (history .entry)) (now (list .entry))) r (now (history .exit)) (now (list .exit)) ⌝ }
+{
+    words::listed_words(history::next_breaks(message, history, list))
 }
 
 // ---- numbers for the track people

@@ -21,6 +21,9 @@ observed-words-determined κs a z z′ w w′ p q = search both
 pub written-words-determined : Determined words.written_words.ended words.written_words.Reads.Learnt
 written-words-determined κs a z z′ w w′ p q = search both
 
+pub listed-words-determined : Determined words.listed_words.ended words.listed_words.Reads.Learnt
+listed-words-determined κs a z z′ w w′ p q = search both
+
 pub found-words-determined : Determined words.found_words.ended words.found_words.Reads.Learnt
 found-words-determined κs a z z′ w w′ p q = search both
 

@@ -26,6 +26,8 @@ use Rattle.stream.specs.declared.Answer.{Answer}
 use Rattle.stream.specs.declared.Answer.the-variants.{Refused, NeedsMore, Message, End}
 use Rattle.track.specs.declared.Phase.{Phase}
 use Rattle.track.specs.declared.Phase.the-variants.{Withheld, NotFinite, PolarityUnknown, NotCorrected, DueHalf, PolarityUndefined}
+use Rattle.history.specs.declared.Breaks.{Breaks}
+use Rattle.history.specs.declared.Breaks.the-variants.{Refused as NotListed, Listed}
 use Rattle.novatel.specs.declared.Record.{Record}
 use Rattle.novatel.specs.declared.Reading as novatel
 use Rattle.novatel.specs.declared.Reading.the-variants.{Refused as NoRecord, Read}
@@ -40,6 +42,7 @@ use Rattle.words.specs.declared.FoundWords.{FoundWords}
 use Rattle.words.specs.declared.ReasonWords.{ReasonWords}
 use Rattle.words.specs.declared.AnswerWords.{AnswerWords}
 use Rattle.words.specs.declared.PhaseWords.{PhaseWords}
+use Rattle.words.specs.declared.ListedWords.{ListedWords}
 use Rattle.words.specs.declared.RecordWords.{RecordWords}
 use Rattle.words.specs.declared.AdrWords.{AdrWords}
 
@@ -119,6 +122,11 @@ observedWords (Seen o) = record { refusal = 0; observation = observationWords o 
 
 abbrev pub writtenWords : Written → WrittenWords
 writtenWords w = record { refusal = writtenNumber w; length = writtenLength w }
+
+-- how many breaks are listed
+abbrev pub listedWords : Breaks → ListedWords
+listedWords (NotListed r) = record { refusal = numberOf r; count = 0 }
+listedWords (Listed n) = record { refusal = 0; count = n }
 
 -- kind 1 is a message, 2 the end
 abbrev pub foundWords : Next → FoundWords

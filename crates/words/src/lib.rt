@@ -1,6 +1,7 @@
 // The words of 64 bits that cross the C boundary: the structs of include/cablesound.h, what words that come in stand for, and what each answer of
 // the library is in words.
 use division::Next;
+use history::Breaks;
 use macm::Form;
 use macm::Head;
 use macm::Header;
@@ -13,7 +14,7 @@ use refusal::Written;
 use stream::Answer;
 use track::Phase;
 ghost use mathlib.Core.Path.{_≡_};
-ghost use Rattle.words.specs.Words.{lowBits, formIn, headerIn, observationIn, headerWords, observationWords, headWords, observedWords, writtenWords, foundWords, reasonWords, answerWords, phaseWords, recordIn, recordOut, recordWords, adrWords};
+ghost use Rattle.words.specs.Words.{lowBits, formIn, headerIn, observationIn, headerWords, observationWords, headWords, observedWords, writtenWords, foundWords, reasonWords, answerWords, phaseWords, listedWords, recordIn, recordOut, recordWords, adrWords};
 
 #[repr(C)]
 pub struct HeaderWords {
@@ -85,6 +86,12 @@ pub struct PhaseWords {
     pub kind: u64,
     pub code: u64,
     pub cycles: f64,
+}
+
+#[repr(C)]
+pub struct ListedWords {
+    pub refusal: u64,
+    pub count: u64,
 }
 
 #[repr(C)]
@@ -268,6 +275,21 @@ pub fn written_words(written: Written) -> WrittenWords
         Written::Length(length) => WrittenWords {
             refusal: 0,
             length: length as u64,
+        },
+    }
+}
+
+pub fn listed_words(breaks: Breaks) -> ListedWords
+    ensures { λ r. ⌜ r ≡ listedWords breaks ⌝ }
+{
+    match breaks {
+        Breaks::Refused(refusal) => ListedWords {
+            refusal: refusal::number(refusal),
+            count: 0,
+        },
+        Breaks::Listed(count) => ListedWords {
+            refusal: 0,
+            count: count as u64,
         },
     }
 }
