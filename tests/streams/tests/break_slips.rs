@@ -1,5 +1,5 @@
-//! The histories are hostile enough: the slips that people make in looking for breaks of lock are told from the right reader by them; and so are any words,
-//! which alone show the slips with a history from C.
+//! The histories are hostile enough: the slips that people make in looking for breaks of lock are told from the right reader by them; and so are the
+//! words, which alone show the slips with a history from C.
 
 use reader::{breaks, fresh_history, next_breaks, Break, Entry, Header, Message, BREAKS_NUMBERS, HISTORY_WORDS};
 use streams::{history, history_words, Random};
