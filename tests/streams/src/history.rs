@@ -41,10 +41,10 @@ pub fn history(random: &mut Random, signal: u8) -> Vec<Message> {
     (0..random.below(12)).map(|_| message(random)).collect()
 }
 
-/// These messages one behind the other, now and then with another part of a stream between.
-pub fn recorded(random: &mut Random, messages: &[Message]) -> Vec<u8> {
+/// Such a recording as a stream, now and then with another part of a stream between two messages.
+pub fn recorded(random: &mut Random, signal: u8) -> Vec<u8> {
     let mut bytes = Vec::new();
-    for message in messages {
+    for message in history(random, signal) {
         bytes.extend(message.to_bytes());
         if random.once_in(4) {
             bytes.extend(piece_of_stream(random));
