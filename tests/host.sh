@@ -1,7 +1,8 @@
 #!/bin/sh
 # The C host of tests/host/ reads the published messages, every case of a phase, S12, and A then B through the C boundary, compiled plainly and with
 # sanitizers, and prints what tests/host/expected.txt says; another one prints the reasons that the program `why` prints, a third one the published range
-# record; the header is taken by C and by C++. Needs target/staticlib/libboard.a, which `rt staticlib board` leaves.
+# record, a fourth one the breaks of lock that `breaks` prints; the header is taken by C and by C++. Needs target/staticlib/libboard.a, which
+# `rt staticlib board` leaves.
 set -u
 root=$(cd "$(dirname "$0")/.." && pwd -P) || exit 2
 cd "$root" || exit 2
@@ -47,6 +48,7 @@ build plain recording.c
 build sanitized recording.c $sanitizers
 build reasons reasons.c $sanitizers
 build record record.c $sanitizers
+build locks locks.c $sanitizers
 for name in plain sanitized; do
     listing "$name" >"$work/$name.txt" 2>"$work/$name.err" || fail "$name stops: $(head -n 3 "$work/$name.err")"
     [ ! -s "$work/$name.err" ] || fail "$name complains: $(head -n 3 "$work/$name.err")"
@@ -55,6 +57,11 @@ done
 for recording in crates/why/stdin samples/sortie.macm /dev/null; do
     $emulator target/bin/why <"$recording" >"$work/why.txt"
     $emulator "$work/reasons" <"$recording" | cmp -s - "$work/why.txt" || fail "the reasons of $recording are others than those of why"
+done
+$emulator "$work/locks" 0 <samples/locks.macm | cmp -s - samples/locks.breaks || fail "the breaks of TYPE 0 are others than samples/locks.breaks"
+for recording in samples/locks.macm samples/sortie.macm /dev/null; do
+    $emulator target/bin/breaks 16 <"$recording" >"$work/breaks.txt"
+    $emulator "$work/locks" 16 <"$recording" | cmp -s - "$work/breaks.txt" || fail "the breaks of $recording are others than those of breaks"
 done
 published=crates/vectors/data/apn-031-rangecmp.bin
 $emulator "$work/record" <"$published" >"$work/record.txt" || fail "the published record is not written as it was read"

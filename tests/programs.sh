@@ -56,6 +56,16 @@ alone target/s12.macm 0 1 2 3 4 5 6 7 8 9 10 11 12 13 14 15 16 17 18
 ./cablesound why samples/sortie.macm >target/reasons
 alone samples/sortie.macm $(awk 'NR > 1 && !seen[$2 == "sync" ? $2 $3 : $2]++ { print $1 }' target/reasons) 13418
 
+# Breaks: of a TYPE, from a file, from standard input, and with zeros in front of the TYPE.
+./cablesound breaks 0 samples/locks.macm | cmp -s - samples/locks.breaks || fail "breaks prints something else than samples/locks.breaks"
+./cablesound breaks 0 <samples/locks.macm | cmp -s - samples/locks.breaks || fail "breaks prints something else from standard input"
+./cablesound breaks 000 samples/locks.macm | cmp -s - samples/locks.breaks || fail "breaks of TYPE 000 is not that of TYPE 0"
+[ "$(./cablesound breaks 016 samples/locks.macm | tail -n 1)" = '915 24 1000 new-lock' ] || fail "breaks of TYPE 016 is not that of TYPE 16"
+[ "$(./cablesound breaks 255 samples/locks.macm)" = 'at sid time break' ] || fail "breaks of a TYPE that the recording has not"
+[ "$(./cablesound breaks 0 </dev/null)" = 'at sid time break' ] || fail "breaks of nothing"
+(cd samples && ../cablesound breaks 0 locks.macm) | cmp -s - samples/locks.breaks || fail "breaks takes a name from another folder than the caller's"
+cat samples/locks.macm | ./cablesound breaks 0 /dev/stdin | cmp -s - samples/locks.breaks || fail "breaks of a pipe"
+
 # Longer recordings, of which the disk holds no more than what is not zero. Past the end of the second nothing is read.
 cp target/s12.macm target/big.macm && truncate -s 1G target/big.macm && cat target/s12.macm >>target/big.macm || exit 2
 [ "$(./cablesound why target/big.macm 3)" = '3 given 16' ] || fail "why of a big recording's beginning"
@@ -104,22 +114,59 @@ shell_says 1 'cablesound: standard output cannot be written' './cablesound why t
 shell_says 1 'error: standard output: No space left on device' './cablesound why samples/sortie.macm >/dev/full'
 shell_says 1 'error: standard input: Is a directory' './cablesound why <samples'
 
+# LINE WORD...: the command says this line, prints nothing and ends with 1
+refuses() {
+    line=$1
+    shift
+    says 1 "$line" "$@"
+    [ ! -s target/said.out ] || fail "'$*' prints something and refuses"
+}
+
+refuses 'cablesound: breaks needs a TYPE: ./cablesound breaks TYPE [FILE]' ./cablesound breaks
+for word in '' -1 +1 1.5 abc 0x10 ' 1' samples/locks.macm; do
+    refuses "cablesound: the TYPE has to be a number in decimal digits: '$word'" ./cablesound breaks "$word" samples/locks.macm
+done
+for type in 256 257 300 1000 18446744073709551616 123456789012345678901234567890; do
+    refuses "cablesound: the TYPE has to be 0 to 255: $type" ./cablesound breaks "$type" samples/locks.macm
+    refuses "cablesound: the TYPE has to be 0 to 255: $type" ./cablesound breaks "00$type" samples/locks.macm
+done
+refuses 'cablesound: one recording at a time: ./cablesound breaks TYPE [FILE]' ./cablesound breaks 0 samples/locks.macm samples/locks.macm
+refuses 'cablesound: no such file: no/such/file' ./cablesound breaks 0 no/such/file
+refuses 'cablesound: this is a folder: samples' ./cablesound breaks 0 samples
+refuses 'cablesound: standard input is closed' sh -c './cablesound breaks 0 <&-'
+shell_says 1 'error: standard input: Is a directory' './cablesound breaks 0 <samples'
+shell_says 1 'error: standard output: No space left on device' './cablesound breaks 0 samples/locks.macm >/dev/full'
+
 # A reader that goes away early is no error: more is printed than a pipe holds.
 shell_says 0 '' './cablesound rows target/long.macm | head -n 1'
 shell_says 0 '' 'trap "" PIPE; ./cablesound rows target/long.macm | head -n 1'
 shell_says 0 '' './cablesound why samples/sortie.macm | head -n 1'
+cp samples/locks.macm target/locks.macm || exit 2
+for _ in 1 2 3 4 5 6 7 8 9 10; do cat target/locks.macm target/locks.macm >target/twice.macm && mv target/twice.macm target/locks.macm; done
+[ "$(./cablesound breaks 0 target/locks.macm | wc -c)" -gt 100000 ] || fail "the breaks of a long recording are hardly any"
+shell_says 0 '' './cablesound breaks 0 target/locks.macm | head -n 1'
+shell_says 0 '' 'trap "" PIPE; ./cablesound breaks 0 target/locks.macm | head -n 1'
 
-# A live line: what has come is printed while the line is open, and the program ends with the command that runs it.
-./cablesound rows <target/line >target/line.rows &
-live=$!
-exec 7>target/line
-head -c 5000 samples/sortie.macm >&7
+# A live line. BYTES RECORDING DUE COMMAND...: of so many bytes of the recording the command prints what is due while the line is open, and the program
+# ends with the command that runs it.
+live() {
+    bytes=$1 recording=$2 due=$3
+    shift 3
+    "$@" <target/line >target/line.printed &
+    use=$!
+    exec 7>target/line
+    head -c "$bytes" "$recording" >&7
+    "$root/tests/soon" cmp -s target/line.printed "$due" || fail "'$*' keeps lines back while the line is open"
+    kill "$use" && wait "$use" 2>/dev/null
+    [ $? -eq 143 ] || fail "'$*' does not end by the signal that it is sent"
+    (head -c 200000 /dev/zero >&7) 2>/dev/null && fail "the program of '$*' goes on where the command has ended"
+    exec 7>&-
+}
+
 awk 'NR == 1 || $1 + 112 <= 5000' samples/sortie.rows >target/due.rows
-"$root/tests/soon" cmp -s target/line.rows target/due.rows || fail "rows keeps lines back while the line is open"
-kill "$live" && wait "$live" 2>/dev/null
-[ $? -eq 143 ] || fail "rows does not end by the signal that it is sent"
-(head -c 200000 /dev/zero >&7) 2>/dev/null && fail "the program goes on where the command has ended"
-exec 7>&-
+live 5000 samples/sortie.macm target/due.rows ./cablesound rows
+awk 'NR == 1 || $1 < 724' samples/locks.breaks >target/due.breaks
+live 724 samples/locks.macm target/due.breaks ./cablesound breaks 0
 
 # Help: of each command a screen, and of all a line.
 for command in $(./cablesound help | sed -n 's/^  \.\/cablesound \([a-z]*\).*/\1/p'); do
@@ -128,4 +175,4 @@ for command in $(./cablesound help | sed -n 's/^  \.\/cablesound \([a-z]*\).*/\1
     ./cablesound "$command" --help | cmp -s - target/said.out || fail "$command --help is not its help"
 done
 [ "${command:-}" = help ] || fail "help does not list the commands"
-echo "programs: list, rows and why print what the second reader prints, list and rows also on a live line, and they say what they cannot read"
+echo "programs: list, rows, why and breaks print what the second reader prints, all but why also on a live line, and they say what they cannot read"

@@ -1,5 +1,7 @@
 //! include/cablesound.h in Rust: its types, its functions, and a safe wrapper of each that lends slices.
 
+use reader::HISTORY_WORDS;
+
 #[repr(C)]
 #[derive(Clone, Copy, Debug, Default, PartialEq)]
 pub struct State {
@@ -143,6 +145,18 @@ pub struct Adr {
     pub adr: i64,
 }
 
+pub const CLOCK_BACK: u64 = 1;
+pub const NEW_LOCK: u64 = 2;
+
+pub type History = [u64; HISTORY_WORDS];
+
+#[repr(C)]
+#[derive(Clone, Copy, Debug, Default, PartialEq)]
+pub struct Listed {
+    pub refusal: u64,
+    pub count: u64,
+}
+
 mod raw {
     use super::*;
 
@@ -176,6 +190,8 @@ mod raw {
         pub fn cs_rangecmp_adr(record: *const u8, length: usize) -> Adr;
         pub fn cs_rangecmp_range_mm(code: u64) -> u64;
         pub fn cs_rangecmp_adr_512ths(code: u64) -> u64;
+        pub fn cs_breaks_fresh(history: *mut u64, signal: u8);
+        pub fn cs_breaks(message: *const u8, length: usize, history: *mut u64, list: *mut u64, list_length: usize) -> Listed;
     }
 }
 
@@ -263,4 +279,12 @@ pub fn rangecmp_range_mm(code: u64) -> u64 {
 
 pub fn rangecmp_adr_512ths(code: u64) -> u64 {
     unsafe { raw::cs_rangecmp_adr_512ths(code) }
+}
+
+pub fn breaks_fresh(history: &mut History, signal: u8) {
+    unsafe { raw::cs_breaks_fresh(history.as_mut_ptr(), signal) }
+}
+
+pub fn breaks(message: &[u8], history: &mut History, list: &mut [u64]) -> Listed {
+    unsafe { raw::cs_breaks(message.as_ptr(), message.len(), history.as_mut_ptr(), list.as_mut_ptr(), list.len()) }
 }

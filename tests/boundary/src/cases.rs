@@ -1,7 +1,7 @@
 //! Cases made from a seed, one kind of call each: messages right and wrong, buffers of any size, states that no run reaches. Each answers what came
 //! of the call, so that a test can see that nothing stays untried: a refusal's number, or ACCEPTED with the kind of answer added.
 
-use crate::{board, compare, expected, record_cases, run, Twin, Verdict};
+use crate::{board, compare, expected, history_cases, record_cases, run, Twin, Verdict};
 use reader::{Form, LONGEST, STREAM_BYTES, SUMMED_BYTES};
 use streams::Random;
 
@@ -37,8 +37,10 @@ const POLARITY_UNKNOWN: u64 = ACCEPTED + board::POLARITY_UNKNOWN;
 const NOT_CORRECTED: u64 = ACCEPTED + board::NOT_CORRECTED;
 const DUE_HALF: u64 = ACCEPTED + board::DUE_HALF;
 const POLARITY_UNDEFINED: u64 = ACCEPTED + board::POLARITY_UNDEFINED;
+const CLOCK_BACK: u64 = ACCEPTED + board::CLOCK_BACK;
+const NEW_LOCK: u64 = ACCEPTED + board::NEW_LOCK;
 
-pub const KINDS: [Kind; 18] = [
+pub const KINDS: [Kind; 19] = [
     Kind { name: "check", attempt: check, outcomes: &[1, 2, 3, 4, ACCEPTED] },
     Kind { name: "read_header", attempt: read_header, outcomes: &[1, 2, 3, 4, ACCEPTED] },
     Kind { name: "read_observation", attempt: read_observation, outcomes: &[1, 2, 3, 4, 5, ACCEPTED] },
@@ -57,6 +59,7 @@ pub const KINDS: [Kind; 18] = [
     Kind { name: "rangecmp_write", attempt: record_cases::write, outcomes: &[23, 6, ACCEPTED] },
     Kind { name: "rangecmp_adr", attempt: record_cases::adr, outcomes: &[13, 22, ACCEPTED] },
     Kind { name: "rangecmp_deviations", attempt: record_cases::deviations, outcomes: &[ACCEPTED] },
+    Kind { name: "breaks", attempt: history_cases::breaks, outcomes: &[1, 2, 3, 4, 8, ACCEPTED, CLOCK_BACK, NEW_LOCK] },
 ];
 
 pub(crate) fn outcome(refusal: u64, kind: u64) -> u64 {
@@ -69,7 +72,12 @@ pub(crate) fn outcome(refusal: u64, kind: u64) -> u64 {
 
 /// Bytes that are a message, nearly one, or none at all.
 fn nearly_message(random: &mut Random) -> Vec<u8> {
-    let mut bytes = streams::message(random);
+    let message = streams::message(random);
+    nearly(random, message)
+}
+
+/// The same of this message.
+pub(crate) fn nearly(random: &mut Random, mut bytes: Vec<u8>) -> Vec<u8> {
     match random.below(10) {
         0 => streams::damage(random, &mut bytes),
         1 => {

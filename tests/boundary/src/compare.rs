@@ -1,6 +1,6 @@
 //! One call through the C boundary against the second reader: the whole answer, and every byte that was lent. Each answers the refusal.
 
-use crate::{board, expected, same, same_bytes, Lent, Verdict};
+use crate::{board, expected, same, same_each, Lent, Verdict};
 
 pub fn check(bytes: &[u8]) -> Verdict<u64> {
     let refusal = board::check(bytes);
@@ -50,15 +50,15 @@ fn writes<T: PartialEq + std::fmt::Debug>(
     let (mut lent, mut copy) = (Lent::new(buffer), buffer.to_vec());
     let answer = board(lent.lend());
     same(what, &answer, &reader(&mut copy))?;
-    same_bytes(what, lent.contents(), &copy)?;
+    same_each(what, lent.contents(), &copy)?;
     lent.margins_stand(what)?;
     Ok(answer)
 }
 
 /// A refusal changes nothing: said of the buffers as such, next to what the second reader does.
-fn unchanged_if_refused(what: &str, refusal: u64, before: &[u8], after: &[u8]) -> Verdict<u64> {
+fn unchanged_if_refused<T: PartialEq + std::fmt::Debug>(what: &str, refusal: u64, before: &[T], after: &[T]) -> Verdict<u64> {
     if refusal != 0 {
-        same_bytes(&format!("{what}: buffer after refusal {refusal}"), after, before)?;
+        same_each(&format!("{what}: buffer after refusal {refusal}"), after, before)?;
     }
     Ok(refusal)
 }
@@ -106,7 +106,7 @@ pub fn to_new(message: &[u8], signal: u8, tfom: u8, output: &[u8]) -> Verdict<u6
     if written.refusal == 0 && signal == 0 {
         let mut back = vec![0; message.len()];
         board::to_old(&after[..written.length as usize], message[4], &mut back);
-        same_bytes("there and back", &back, message)?;
+        same_each("there and back", &back, message)?;
     }
     unchanged_if_refused("to the new form", written.refusal, output, &after)
 }
@@ -196,7 +196,7 @@ fn within(what: &str, double: f64, whole: i128, coarse: u32, fine: u32, most: i1
 fn stays<T>(what: &str, bytes: &[u8], compare: impl FnOnce(&[u8]) -> Verdict<T>) -> Verdict<T> {
     let lent = Lent::new(bytes);
     let answer = compare(lent.contents())?;
-    same_bytes(what, lent.contents(), bytes)?;
+    same_each(what, lent.contents(), bytes)?;
     lent.margins_stand(what)?;
     Ok(answer)
 }
@@ -216,7 +216,7 @@ pub fn rangecmp_read(bytes: &[u8]) -> Verdict<u64> {
     if record.refusal == 0 {
         let mut back = [0; reader::RECORD_BYTES];
         same("rangecmp_write of what was read", board::rangecmp_write(&mut back, record).refusal, 0)?;
-        same_bytes("rangecmp: there and back", &back, bytes)?;
+        same_each("rangecmp: there and back", &back, bytes)?;
     }
     Ok(record.refusal)
 }
@@ -247,4 +247,32 @@ pub fn rangecmp_adr(bytes: &[u8]) -> Verdict<u64> {
 pub fn rangecmp_deviations(code: u64) -> Verdict<()> {
     same(&format!("rangecmp_range_mm of {code}"), board::rangecmp_range_mm(code), reader::range_mm(code))?;
     same(&format!("rangecmp_adr_512ths of {code}"), board::rangecmp_adr_512ths(code), reader::adr_512ths(code))
+}
+
+/// A history for a TYPE, whatever stood in its words.
+pub fn breaks_fresh(before: &board::History, signal: u8) -> Verdict<board::History> {
+    let mut lent = Lent::new(before);
+    board::breaks_fresh(history_in(&mut lent), signal);
+    let fresh = reader::fresh_history(signal);
+    same_each("breaks_fresh", lent.contents(), &fresh)?;
+    lent.margins_stand("breaks_fresh")?;
+    Ok(fresh)
+}
+
+fn history_in(lent: &mut Lent<u64>) -> &mut board::History {
+    lent.lend().try_into().expect("the words of a history")
+}
+
+/// One message behind a history; it and the list become what the call makes of them, and every word of both is compared. Answers what the board does.
+pub fn breaks(message: &[u8], history: &mut board::History, list: &mut [u64]) -> Verdict<board::Listed> {
+    let (mut lent, mut put) = (Lent::new(&history[..]), Lent::new(list));
+    let listed = stays("breaks: message", message, |message| Ok(board::breaks(message, history_in(&mut lent), put.lend())))?;
+    unchanged_if_refused("breaks: history", listed.refusal, history, lent.contents())?;
+    unchanged_if_refused("breaks: list", listed.refusal, list, put.contents())?;
+    same("breaks", listed, expected::listed(reader::next_breaks(message, history, list.len()), list))?;
+    same_each("breaks: history", lent.contents(), history)?;
+    same_each("breaks: list", put.contents(), list)?;
+    lent.margins_stand("breaks: history")?;
+    put.margins_stand("breaks: list")?;
+    Ok(listed)
 }

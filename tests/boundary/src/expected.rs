@@ -126,6 +126,25 @@ pub fn adr(answer: Result<(i64, i64), Refusal>) -> board::Adr {
     }
 }
 
+/// The answer; the entries go to the front of the list, each in three numbers.
+pub fn listed(answer: Result<Vec<reader::Entry>, Refusal>, list: &mut [u64]) -> board::Listed {
+    match answer {
+        Ok(entries) => {
+            list.iter_mut().zip(entries.iter().flat_map(entry)).for_each(|(number, expected)| *number = expected);
+            board::Listed { refusal: 0, count: entries.len() as u64 }
+        }
+        Err(refusal) => board::Listed { refusal, ..Default::default() },
+    }
+}
+
+fn entry(entry: &reader::Entry) -> [u64; 3] {
+    let which = match entry.which {
+        reader::Break::ClockBack => board::CLOCK_BACK,
+        reader::Break::NewLock => board::NEW_LOCK,
+    };
+    [entry.sid.into(), entry.time.into(), which]
+}
+
 /// The low bits of each number go into its field, and a form that is not the old one is the new one.
 pub fn header_fields(header: board::Header) -> reader::Header {
     let (time, offset) = (header.time as u32, header.offset as u32);

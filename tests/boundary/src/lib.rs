@@ -4,6 +4,7 @@ pub mod board;
 pub mod cases;
 mod compare;
 mod expected;
+mod history_cases;
 mod lent;
 mod record_cases;
 mod run;
@@ -26,12 +27,12 @@ pub fn same<T: PartialEq + std::fmt::Debug>(what: &str, board: T, reader: T) -> 
     }
 }
 
-/// The same for bytes, naming the first place alone.
-pub fn same_bytes(what: &str, board: &[u8], reader: &[u8]) -> Verdict<()> {
+/// The same for bytes or words, naming the first place alone.
+pub fn same_each<T: PartialEq + std::fmt::Debug>(what: &str, board: &[T], reader: &[T]) -> Verdict<()> {
     if board == reader {
         return Ok(());
     }
     let place = board.iter().zip(reader).position(|(left, right)| left != right);
     let place = place.unwrap_or(board.len().min(reader.len()));
-    Err(format!("{what}: byte {place} is {:?} on the board, {:?} in the second reader", board.get(place), reader.get(place)))
+    Err(format!("{what}: at {place} stands {:?} on the board, {:?} in the second reader", board.get(place), reader.get(place)))
 }

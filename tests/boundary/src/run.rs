@@ -1,6 +1,6 @@
 //! A whole run over a stream in pieces, held against the division of the stream.
 
-use crate::{board, same, same_bytes, Twin, Verdict};
+use crate::{board, same, same_each, Twin, Verdict};
 
 /// What a run gave: gap and bytes of each message, the gap at the end, and the number of calls.
 #[derive(Default)]
@@ -69,7 +69,7 @@ fn accepted(twin: &Twin, answer: board::Answer, before: &[u8], gave: &mut Gave) 
     let behind = twin.window().get(twin.state.held as usize..).ok_or("more is held than the window has")?;
     same("zeros behind the held bytes", behind.iter().all(|&byte| byte == 0), true)?;
     let length = answer.length as usize;
-    same_bytes("output past the message", &twin.output()[length..], &before[length..])?;
+    same_each("output past the message", &twin.output()[length..], &before[length..])?;
     if answer.kind == board::MESSAGE {
         gave.messages.push((answer.gap, twin.output()[..length].to_vec()));
     }

@@ -1,6 +1,6 @@
 //! The board's stream reader and the model side by side: the same call to both, and everything compared after it.
 
-use crate::{board, expected, same, same_bytes, Lent, Verdict};
+use crate::{board, expected, same, same_each, Lent, Verdict};
 
 pub struct Twin {
     pub state: board::State,
@@ -50,8 +50,8 @@ impl Twin {
         if answer.refusal != 0 {
             same(&format!("{call}: the state after a refusal"), self.state, before)?;
         }
-        same_bytes(&format!("{call}: window"), self.window(), &self.model_window)?;
-        same_bytes(&format!("{call}: output"), self.output(), &self.model_output)?;
+        same_each(&format!("{call}: window"), self.window(), &self.model_window)?;
+        same_each(&format!("{call}: output"), self.output(), &self.model_output)?;
         self.window.margins_stand("window")?;
         self.output.margins_stand("output")?;
         Ok(answer)

@@ -1,7 +1,7 @@
 //! Buffers that end, or begin, at memory nobody may touch: a call that reads or writes one byte outside of what it is lent ends the program.
 
 use boundary::{board, read_all, reasons};
-use reader::{checksum, Form, LONGEST, RECORD_BYTES};
+use reader::{checksum, Form, BREAKS_NUMBERS, HISTORY_WORDS, LONGEST, RECORD_BYTES};
 use std::ffi::{c_int, c_long, c_void};
 use streams::Random;
 
@@ -29,14 +29,15 @@ impl Walled {
         }
     }
 
-    /// So many bytes that end, or begin, at a wall, with these contents at their front.
-    fn bytes(&mut self, length: usize, at_the_end: bool, contents: &[u8]) -> &mut [u8] {
-        assert!(length <= PAGES * PAGE && contents.len() <= length);
-        let before = if at_the_end { PAGES * PAGE - length } else { 0 };
-        let bytes = unsafe { std::slice::from_raw_parts_mut(self.0.add(PAGE + before), length) };
-        bytes.fill(0x4D);
-        bytes[..contents.len()].copy_from_slice(contents);
-        bytes
+    /// So many bytes or words that end, or begin, at a wall, with these contents at their front.
+    fn lend<T: Copy + From<u8>>(&mut self, length: usize, at_the_end: bool, contents: &[T]) -> &mut [T] {
+        let bytes = length * std::mem::size_of::<T>();
+        assert!(bytes <= PAGES * PAGE && contents.len() <= length);
+        let before = if at_the_end { PAGES * PAGE - bytes } else { 0 };
+        let lent = unsafe { std::slice::from_raw_parts_mut(self.0.add(PAGE + before) as *mut T, length) };
+        lent.fill(T::from(0x4D));
+        lent[..contents.len()].copy_from_slice(contents);
+        lent
     }
 }
 
@@ -69,7 +70,7 @@ fn one_message() {
         }
         let (end, other) = (random.once_in(2), random.once_in(2));
         let length = (message.len() + 2).saturating_sub(random.below(4));
-        let (message, output) = (lent.bytes(message.len(), end, &message), put.bytes(length, other, &[]));
+        let (message, output) = (lent.lend(message.len(), end, &message), put.lend(length, other, &[]));
         let refusal = reader::check(message).err().unwrap_or(0);
         assert_eq!(board::check(message), refusal);
         assert_eq!(read_all(message).unwrap(), refusal);
@@ -91,7 +92,7 @@ fn reading_at_all_short_lengths() {
             let mut bytes = [&form.sync()[..], &random.bytes(form.length(2) + 1 - 4)].concat();
             bytes[form.count_place()] = count;
             for (length, at_the_end) in (0..=bytes.len()).flat_map(|length| [(length, true), (length, false)]) {
-                let message = lent.bytes(length, at_the_end, &bytes[..length]);
+                let message = lent.lend(length, at_the_end, &bytes[..length]);
                 if length < 15 {
                     assert_eq!(read_all(message).unwrap(), 1, "{length} bytes");
                     continue;
@@ -113,7 +114,7 @@ fn records() {
     let (mut lent, mut put) = (Walled::new(), Walled::new());
     for (mut random, _) in streams_from(SEED, 100) {
         for (length, at_the_end) in (0..=2 * RECORD_BYTES).flat_map(|length| [(length, true), (length, false)]) {
-            let (bytes, output) = (lent.bytes(length, at_the_end, &random.bytes(length)), put.bytes(length, at_the_end, &[]));
+            let (bytes, output) = (lent.lend(length, at_the_end, &random.bytes(length)), put.lend(length, at_the_end, &[]));
             assert_eq!(board::rangecmp_read(bytes).refusal, reader::read_record(bytes).err().unwrap_or(0));
             assert_eq!(board::rangecmp_adr(bytes).refusal, reader::corrected_adr(bytes).err().unwrap_or(0));
             let whole = random.bytes(RECORD_BYTES);
@@ -124,11 +125,39 @@ fn records() {
     }
 }
 
+/// Whole messages and fronts of them, histories, and lists that are long enough or are not, at both walls.
+#[test]
+fn breaks_of_lock() {
+    println!("1000 histories at the edges of memory, from seed {SEED}");
+    let (mut lent, mut held, mut put) = (Walled::new(), Walled::new(), Walled::new());
+    for seed in SEED..SEED + 1000 {
+        let mut random = Random::new(seed);
+        let signal = random.byte();
+        let words = streams::history_words(&mut random, signal);
+        let history: &mut board::History = held.lend(HISTORY_WORDS, random.once_in(2), &words).try_into().unwrap();
+        let mut expected = *history;
+        for message in streams::history(&mut random, signal) {
+            let mut bytes = message.to_bytes();
+            if random.once_in(4) {
+                bytes.truncate(random.below(bytes.len()));
+            }
+            let length = BREAKS_NUMBERS + random.below(4) - 1;
+            let message = lent.lend(bytes.len(), random.once_in(2), &bytes);
+            let listed = board::breaks(message, history, put.lend(length, random.once_in(2), &[]));
+            let entries = reader::next_breaks(&bytes, &mut expected, length);
+            assert_eq!((listed.refusal, listed.count as usize), entries.map_or_else(|refusal| (refusal, 0), |entries| (0, entries.len())));
+            assert_eq!(*history, expected);
+        }
+        board::breaks_fresh(history, signal);
+        assert_eq!(*history, reader::fresh_history(signal));
+    }
+}
+
 #[test]
 fn plain_reader() {
     let mut lent = Walled::new();
     for (mut random, stream) in streams_from(SEED, 3000) {
-        let recording = lent.bytes(stream.len(), random.once_in(2), &stream);
+        let recording = lent.lend(stream.len(), random.once_in(2), &stream);
         let mut start = 0;
         let mut messages = 0;
         loop {
@@ -150,7 +179,7 @@ fn reasons_at_the_edges() {
     for (mut random, stream) in streams_from(SEED, 2000) {
         let length = stream.len().min(random.below(2) * PAGES * PAGE + random.below(41));
         for at_the_end in [true, false] {
-            let recording = lent.bytes(length, at_the_end, &stream[..length]);
+            let recording = lent.lend(length, at_the_end, &stream[..length]);
             reasons(recording, (0..=length + 1).step_by(1 + length / 100)).unwrap();
         }
     }
@@ -160,14 +189,14 @@ fn reasons_at_the_edges() {
 fn stream_reader() {
     let (mut lent, mut held, mut put) = (Walled::new(), Walled::new(), Walled::new());
     for (mut random, stream) in streams_from(SEED, 1500) {
-        let window = held.bytes(LONGEST + random.below(2) * random.below(100), random.once_in(2), &[]);
-        let output = put.bytes(LONGEST + random.below(2) * random.below(100), random.once_in(2), &[]);
+        let window = held.lend(LONGEST + random.below(2) * random.below(100), random.once_in(2), &[]);
+        let output = put.lend(LONGEST + random.below(2) * random.below(100), random.once_in(2), &[]);
         let (mut state, mut left, mut messages) = (board::fresh(), &stream[..], 0);
         for length in streams::cuts(&mut random, stream.len()) {
             let (mut piece, later) = left.split_at(length);
             left = later;
             loop {
-                let answer = board::feed(&mut state, lent.bytes(piece.len(), random.once_in(2), piece), window, output);
+                let answer = board::feed(&mut state, lent.lend(piece.len(), random.once_in(2), piece), window, output);
                 piece = &piece[answer.taken as usize..];
                 if answer.kind != board::MESSAGE {
                     break;

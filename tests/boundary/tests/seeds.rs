@@ -64,3 +64,8 @@ fn whole_runs() {
 fn records() {
     ["rangecmp_read", "rangecmp_write", "rangecmp_adr", "rangecmp_deviations"].into_iter().for_each(named);
 }
+
+#[test]
+fn histories() {
+    named("breaks");
+}

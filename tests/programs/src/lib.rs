@@ -1,14 +1,16 @@
 //! What the programs have to print, from the second reader and by other means than theirs: Rust's formatting, exact decimal expansions, strings.
 
+mod breaks;
 mod host;
 mod sample;
 mod started;
 mod vectors;
 mod why;
 
+pub use breaks::{breaks, breaks_of, BREAKS_HEADING};
 pub use host::host;
-pub use sample::{every_phase, every_reason, recording};
-pub use started::{offered, printed, started};
+pub use sample::{every_break, every_phase, every_reason, recording};
+pub use started::{offered, printed, said, started};
 pub use vectors::vectors;
 pub use why::{why, why_lines, WHY_HEADING, WHY_LONGEST};
 
@@ -53,7 +55,7 @@ pub fn rows(stream: &[u8]) -> String {
 
 /// What a program has to print of the bytes that have come while more may come: of the messages that are settled from this position on, which moves to
 /// the first byte that is not.
-pub fn settled(text_of: fn(usize, &[u8]) -> String, come: &[u8], position: &mut usize) -> String {
+pub fn settled(text_of: &mut impl FnMut(usize, &[u8]) -> String, come: &[u8], position: &mut usize) -> String {
     let mut text = String::new();
     loop {
         match standing(&come[*position..]) {

@@ -1,5 +1,5 @@
 //! Recordings to try the programs with: a minute of four satellites in both forms, with what a recorder meets besides; one for every reason why no
-//! message is given; and one for every case of a phase.
+//! message is given; one for every case of a phase; and one for every way in which lock breaks.
 
 use reader::{Header, Message, Observation};
 
@@ -89,4 +89,34 @@ pub fn every_phase() -> Vec<u8> {
     let new = Message { header: Header::New { signal: 0, tfom: 0, time, offset }, observations: observations.clone() };
     let old = Message { header: Header::Old { version: 2, time: time + 500, offset }, observations };
     [new.to_bytes(), old.to_bytes()].concat()
+}
+
+/// The lock counts of SID 7 of GPS, second by second, and those of SID 24 of Galileo.
+const LOST_AGAIN: [u32; 8] = [31_000, 0, 500, 1_000, 0, 500, 0, 500];
+const LOST_ONCE: [u32; 8] = [9_000, 9_500, 10_000, 10_500, 11_000, 0, 500, 1_000];
+
+/// Eight seconds of GPS L1 C/A and Galileo E1 over the end of the week, at second 4, where the clock goes back for all. Of GPS, SID 7 loses lock
+/// before, then and later; SID 14 is there twice at second 2, of which one lost lock; the count of SID 2 wraps at second 3. Of Galileo, SID 24 loses
+/// lock at second 5. There an old message stands between them, and now and then a line ends.
+pub fn every_break() -> Vec<u8> {
+    let offset = 0x407C_1000;
+    let mut bytes = Vec::new();
+    for (second, (lost_again, lost_once)) in (0..).zip(LOST_AGAIN.into_iter().zip(LOST_ONCE)) {
+        let time = (604_796_000 + 1_000 * second) % 604_800_000;
+        let locked = |satellite, lock| Observation { lock, ..observation(satellite, f64::from(second)) };
+        let mut gps = vec![locked(0, 4_294_966_295u32.wrapping_add(500 * second)), locked(1, lost_again), locked(2, 40_000 + 500 * second)];
+        if second == 2 {
+            gps.push(locked(2, 1_000));
+        }
+        bytes.extend(Message { header: Header::New { signal: 0, tfom: 3, time, offset }, observations: gps }.to_bytes());
+        if second % 3 == 0 {
+            bytes.extend(b"\r\n");
+        }
+        if second == 5 {
+            bytes.extend(Message { header: Header::Old { version: 2, time, offset }, observations: vec![locked(1, 0)] }.to_bytes());
+        }
+        let galileo = vec![locked(0, 12_000 + 500 * second), locked(3, lost_once)];
+        bytes.extend(Message { header: Header::New { signal: 16, tfom: 3, time, offset }, observations: galileo }.to_bytes());
+    }
+    bytes
 }

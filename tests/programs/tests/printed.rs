@@ -13,8 +13,8 @@ fn listing_and_rows_of_many_streams() {
     for case in 0..STREAMS {
         let stream = streams::stream(&mut random);
         let pieces = streams::cuts(&mut random, stream.len());
-        assert_eq!(printed("listing", &stream, &pieces), programs::listing(&stream), "stream {case}");
-        assert_eq!(printed("rows", &stream, &pieces), programs::rows(&stream), "stream {case}");
+        assert_eq!(printed("listing", &[], &stream, &pieces), programs::listing(&stream), "stream {case}");
+        assert_eq!(printed("rows", &[], &stream, &pieces), programs::rows(&stream), "stream {case}");
     }
     println!("programs: {STREAMS} cases from seed {SEED}");
 }
@@ -28,8 +28,8 @@ fn a_long_stream() {
         stream.extend(streams::piece_of_stream(&mut random));
     }
     let pieces = [stream.len()];
-    assert_eq!(printed("listing", &stream, &pieces), programs::listing(&stream));
-    assert_eq!(printed("rows", &stream, &pieces), programs::rows(&stream));
+    assert_eq!(printed("listing", &[], &stream, &pieces), programs::listing(&stream));
+    assert_eq!(printed("rows", &[], &stream, &pieces), programs::rows(&stream));
 }
 
 /// An old message with this time and as many observations, which all have it as their lock count.
@@ -39,8 +39,8 @@ fn timed(time: u32, count: usize) -> Vec<u8> {
 }
 
 fn assert_printed(stream: &[u8]) {
-    assert_eq!(printed("listing", stream, &[stream.len()]), programs::listing(stream));
-    assert_eq!(printed("rows", stream, &[stream.len()]), programs::rows(stream));
+    assert_eq!(printed("listing", &[], stream, &[stream.len()]), programs::listing(stream));
+    assert_eq!(printed("rows", &[], stream, &[stream.len()]), programs::rows(stream));
 }
 
 /// Times, lock counts, lengths and positions about every power of ten: how the digits of a number are set hangs on how many there are.
@@ -66,8 +66,8 @@ fn every_four_digits() {
 
 #[test]
 fn nothing() {
-    assert_eq!(printed("listing", b"", &[]), "at bytes form obs time\nend 0 messages 0 gap 0\n");
-    assert_eq!(printed("rows", b"", &[]), programs::ROWS_HEADING);
+    assert_eq!(printed("listing", &[], b"", &[]), "at bytes form obs time\nend 0 messages 0 gap 0\n");
+    assert_eq!(printed("rows", &[], b"", &[]), programs::ROWS_HEADING);
 }
 
 #[test]

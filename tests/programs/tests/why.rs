@@ -27,7 +27,7 @@ fn due(text: &str, recording: &[u8]) {
 
 /// All in one piece.
 fn same_whole(recording: &[u8]) {
-    due(&printed("why", recording, &[recording.len()]), recording);
+    due(&printed("why", &[], recording, &[recording.len()]), recording);
 }
 
 #[test]
@@ -35,10 +35,10 @@ fn the_lines_as_the_request_has_them() {
     let inside: String = (4..19).map(|position| format!("{position} inside 3\n")).collect();
     let text = format!("at reason value\n0 short 1604\n1 sync 1\n2 sync 1\n3 given 16\n{inside}");
     assert_eq!(programs::why(S12), text);
-    assert_eq!(printed("why", S12, &[19]), text);
-    assert_eq!(printed("why", b"", &[]), "at reason value\n");
-    assert_eq!(printed("why", b"MAC2\x00\x00", &[6]), "at reason value\n0 short -\n1 sync 1\n2 sync 1\n3 sync 1\n4 sync 1\n5 sync 1\n");
-    let as_printed = printed("why", PUBLISHED[1], &[456]);
+    assert_eq!(printed("why", &[], S12, &[19]), text);
+    assert_eq!(printed("why", &[], b"", &[]), "at reason value\n");
+    assert_eq!(printed("why", &[], b"MAC2\x00\x00", &[6]), "at reason value\n0 short -\n1 sync 1\n2 sync 1\n3 sync 1\n4 sync 1\n5 sync 1\n");
+    let as_printed = printed("why", &[], PUBLISHED[1], &[456]);
     assert!(as_printed.contains("\n25 checksum 02\n") && as_printed.contains("\n253 checksum 02\n"), "{as_printed}");
 }
 
@@ -47,7 +47,7 @@ fn published_and_sample_recordings() {
     PUBLISHED.into_iter().for_each(same_whole);
     same_whole(&programs::recording());
     let every = programs::every_reason();
-    due(&printed("why", &every, &vec![1; every.len()]), &every);
+    due(&printed("why", &[], &every, &vec![1; every.len()]), &every);
 }
 
 /// Cut at every length: a new and an old message, a false start in front of them or none.
@@ -66,7 +66,7 @@ fn many_streams() {
     for _ in 0..STREAMS {
         let stream = streams::stream(&mut random);
         let pieces = streams::cuts(&mut random, stream.len());
-        due(&offered("why", &stream, &pieces).0, &stream);
+        due(&offered("why", &[], &stream, &pieces).0, &stream);
     }
     println!("why: {STREAMS} cases from seed {SEED}");
 }
@@ -83,7 +83,7 @@ fn short_long_and_longer_recordings() {
         for piece in [613, 65_536] {
             let mut pieces = vec![piece; length / piece];
             pieces.push(length % piece);
-            let (text, written) = offered("why", &stream[..length], &pieces);
+            let (text, written) = offered("why", &[], &stream[..length], &pieces);
             due(&text, &stream[..length]);
             assert_eq!(text == "longer than 61440 bytes\n", length > 61_440, "{length} bytes");
             assert!(written.is_ok() || length > WHY_LONGEST, "{length} bytes in pieces of {piece} are not read to the end");
@@ -93,7 +93,7 @@ fn short_long_and_longer_recordings() {
 
 /// What the program prints for a recording that a pipe holds, where it takes no longer than this.
 fn within(limit: Duration, recording: &[u8]) -> Option<String> {
-    let mut child = started("why");
+    let mut child = started("why", &[]);
     let mut input = child.stdin.take().expect("standard input is a pipe");
     let mut output = child.stdout.take().expect("standard output is a pipe");
     input.write_all(recording).expect("the program reads to the end");

@@ -2,6 +2,7 @@
 //! C boundary.
 //! Nothing here is fast or careful with memory: each function follows the document's sentence and no more.
 
+mod breaks;
 mod division;
 mod message;
 mod numbers;
@@ -11,6 +12,7 @@ mod stream;
 mod whole;
 mod work;
 
+pub use breaks::{breaks, fresh_history, next_breaks, Break, Entry, BREAKS_NUMBERS, HISTORY_WORDS};
 pub use division::{divide, message_at, next, Division, Found, Given};
 pub use message::{check, checksum, read_header, read_observation, set, start, to_new, to_old, Form, Head, Header, Message, Observation};
 pub use numbers::{lock_ms, phase, plot_row, range_um, Phase, Polarity};

@@ -1,10 +1,12 @@
 //! The streams that the readers are tried with: a generator of numbers, messages whose fields hold sync letters and other messages, forged counts,
-//! overlapping starts, cut ends and damaged bytes; and NovAtel's records. Everything follows from a seed.
+//! overlapping starts, cut ends and damaged bytes; NovAtel's records; and histories of lock. Everything follows from a seed.
 
+mod history;
 mod parts;
 mod random;
 mod record;
 
+pub use history::{history, history_words, recorded};
 pub use parts::{damage, message, observation, piece_of_stream, stream};
 pub use random::Random;
 pub use record::record;

@@ -69,7 +69,7 @@ pub fn observation(random: &mut Random) -> Observation {
 }
 
 /// How many observations: mostly few, now and then as many as there can be.
-fn count(random: &mut Random) -> u8 {
+pub(crate) fn count(random: &mut Random) -> u8 {
     match random.below(60) {
         0 => 255,
         1 => random.byte(),
