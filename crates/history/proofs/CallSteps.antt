@@ -1,22 +1,26 @@
 -- What a call answers and leaves, by what its tests say. Assumes nothing.
-use Prim.Native.Nat.{ℕ, _≤_, _<_}
+use Prim.Native.Nat.{ℕ, _*_, _≤_, _<_}
 use mathlib.Core.Path.{_≡_, refl, sym, ap, _∙_}
-use mathlib.Core.Bool.{true, false, cond}
-use mathlib.Core.List.{List, [], _++_}
+use mathlib.Core.Bool.{Bool, true, false, cond}
+use mathlib.Core.List.{List, _++_}
+use native.Mathlib.Omega.{arith}
 use native.Mathlib.Nat.{zero-add}
-use lib.ListN.{length, drop}
+use lib.Dec.{ltb}
+use lib.ListN.{length, drop, length-append}
 use borrow.Author.Tests.{lt-ltb, le-ltb}
 use Rattle.refusal.specs.declared.Refusal.{Refusal}
 use Rattle.refusal.specs.declared.Refusal.the-variants.{SmallBuffer}
 use Rattle.macm.specs.declared.Header.{Header}
 use Rattle.macm.specs.declared.Head.{Head}
 use Rattle.macm.specs.declared.Head.the-variants.{Refused as NoHead, Read}
+use Rattle.history.specs.declared.Breaks.{Breaks}
 use Rattle.history.specs.declared.Breaks.the-variants.{Refused, Listed}
 use Rattle.history.specs.Words.{typeIn}
 use Rattle.history.specs.Appearances.{isOf, appearancesUpTo, appearancesIn}
-use Rattle.history.specs.Breaks.{numbersOf, afterAll, begun}
-use Rattle.history.specs.Calls.{listNumbers, Leaves, callBy}
+use Rattle.history.specs.Breaks.{Kept, numbersOf, afterAll, begun}
+use Rattle.history.specs.Calls.{listNumbers, Leaves, refusing, listing, callBy}
 use Rattle.history.specs.Steps.{Takes}
+use Rattle.history.proofs.Takes.{numbers-length}
 
 module _ (m ws list : List ℕ) (head : Head) where
   pub call-refused : (r : Refusal) → head ≡ NoHead r → Leaves (callBy head m ws list) (Refused r) ws list
@@ -43,3 +47,19 @@ module _ (m ws list : List ℕ) (head : Head) where
           words = t .words;
           list = t .listed ∙ ap (λ k. numbers ++ drop k list) (zero-add (length numbers));
         })
+
+-- ---- the list holds the entries that are said to be in it
+abbrev pub Holds : Breaks → List ℕ → Type 0
+Holds (Refused r) list = Unit
+Holds (Listed n) list = 3 * n ≤ length list
+
+pub list-holds : (m ws list : List ℕ) (head : Head) → Holds (callBy head m ws list .answer) (callBy head m ws list .list)
+unfolding callBy
+list-holds m ws list (NoHead r) = tt
+list-holds m ws list (Read h n) = go (ltb (length list) listNumbers) (afterAll (begun ws) (appearancesIn (typeIn ws) h n m))
+  where
+    go : (b : Bool) (k : Kept) → Holds (cond b (refusing SmallBuffer ws list) (listing k list) .answer) (cond b (refusing SmallBuffer ws list) (listing k list) .list)
+    go true k = tt
+    go false k =
+        let es = k .entries in
+        omega (arith, numbers-length es, length-append (numbersOf es) (drop (length (numbersOf es)) list))

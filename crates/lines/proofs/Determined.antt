@@ -1,4 +1,5 @@
--- Each public contract of `lines` determines its answer and every byte of the buffer. Assumes nothing.
+-- Each public contract of `lines` determines its answer and every byte or number that is lent. Assumes nothing.
+use mathlib.Core.Path.{refl}
 use Rattle.owed.specs.Determined.{Determined}
 use Rattle.owed.proofs.Same.{both}
 use Rattle.lines.proofs as lines
@@ -11,3 +12,7 @@ put-end-determined κs a z z′ w w′ p q = search both
 
 pub put-rows-determined : Determined lines.put_rows.ended lines.put_rows.Reads.Learnt
 put-rows-determined κs a z z′ w w′ p q = search both
+
+pub put-breaks-determined : Determined lines.put_breaks.ended lines.put_breaks.Reads.Learnt
+put-breaks-determined κs a z z′ w w′ p q =
+    (both (p .text .next) (q .text .next), (both (p .text .bytes) (q .text .bytes), (refl, (refl, (refl, (both (p .words) (q .words), (both (p .listed) (q .listed), tt)))))))

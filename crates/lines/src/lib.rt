@@ -1,5 +1,6 @@
 // The lines that the programs print, put into a lent buffer as `text` puts numbers: of a message in the listing, of an observation for the people who
-// compute the track, and the listing's last.
+// compute the track, of a break of lock, and the listing's last.
+use history::Breaks;
 use macm::Form;
 use macm::Head;
 use macm::Header;
@@ -7,8 +8,12 @@ use macm::Observation;
 use macm::Observed;
 use track::Phase;
 ghost use mathlib.Core.List.{_++_};
+ghost use Prim.Native.Nat.{_*_, _≤_};
+ghost use lib.ListN.{length};
 ghost use Rattle.text.specs.Put.{Puts};
 ghost use Rattle.lines.specs.Listing.{formText, messageText, lineText, endText};
+ghost use Rattle.history.specs.Calls.{claimedCall};
+ghost use Rattle.lines.specs.Breaks.{whichText, breakText, breaksUpTo, Prints};
 ghost use Rattle.lines.specs.Rows.{headText, rangeText, phaseText, polarityText, shownText, observationText, rowText, rowsUpTo, rowsText};
 
 // ---- the listing
@@ -177,4 +182,62 @@ pub fn put_rows(out: &mut [u8], at: usize, position: u64, message: &[u8]) -> usi
     let mut head = [0u8; 80];
     let width = put_head(&mut head, 0, position, header);
     put_observations(out, at, text::front(&head, width), form, count, message)
+}
+
+// ---- the breaks of lock
+
+fn put_which(out: &mut [u8], at: usize, which: u64) -> usize
+    ensures { λ r. ⌜ Puts (now (out .entry)) at (whichText which) r (now (out .exit)) ⌝ }
+{
+    if which == history::CLOCK_BACK {
+        return text::put_all(out, at, b"clock-back\n");
+    }
+    text::put_all(out, at, b"new-lock\n")
+}
+
+// The line of a break in the message at a position.
+fn put_break(out: &mut [u8], at: usize, position: u64, sid: u64, time: u64, which: u64) -> usize
+    ensures { λ r. ⌜ Puts (now (out .entry)) at (breakText position sid time which) r (now (out .exit)) ⌝ }
+{
+    let next = text::put_number(out, at, position, b' ');
+    let next = text::put_number(out, next, sid, b' ');
+    let next = text::put_number(out, next, time, b' ');
+    put_which(out, next, which)
+}
+
+// The lines of the first breaks of a list.
+fn put_listed(out: &mut [u8], at: usize, position: u64, list: &[u64], count: usize) -> usize
+    requires { ⌜ 3 * count ≤ length (now list) ⌝ }
+    ensures { λ r. ⌜ Puts (now (out .entry)) at (breaksUpTo count position (now (list .entry))) r (now (out .exit)) ⌝ }
+{
+    let mut next = at;
+    for index in 0..count {
+        let first = 3 * index;
+        next = put_break(
+            out,
+            next,
+            position,
+            list[first],
+            list[first + 1],
+            list[first + 2],
+        );
+    }
+    next
+}
+
+// The lines of the breaks in the message at a position, as its bytes claim it, after those that the history has taken.
+pub fn put_breaks(
+    out: &mut [u8],
+    at: usize,
+    position: u64,
+    message: &[u8],
+    history: &mut [u64; history::WORDS],
+    list: &mut [u64],
+) -> usize
+    ensures { λ r. ⌜ Prints (now (out .entry)) at position (claimedCall (now (message .entry)) (now (history .entry)) (now (list .entry))) r (now (out .exit)) (now (history .exit)) (now (list .exit)) ⌝ }
+{
+    match history::claimed_breaks(message, history, list) {
+        Breaks::Refused(_) => at,
+        Breaks::Listed(count) => put_listed(out, at, position, list, count),
+    }
 }
