@@ -11,3 +11,6 @@ rows-determined κs a z z′ w w′ p q = search both
 
 pub reasons-determined : Determined report.reasons.ended report.reasons.Reads.Learnt
 reasons-determined κs a z z′ w w′ p q = search both
+
+pub breaks-determined : Determined report.breaks.ended report.breaks.Reads.Learnt
+breaks-determined κs a z z′ w w′ p q = search both

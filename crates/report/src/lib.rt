@@ -1,15 +1,23 @@
 // What the programs share: a recording comes in on standard input in large blocks, is divided where it stands in the buffer, and its lines go out in
 // large blocks. What a line says is proved in `lines` and `account`, that blocks divided so give the division of the recording in `promises`; what a
 // program prints is held to stored output.
+use argument::Small;
 use division::Walked;
 use std::num::wrapping_add_u64;
 use std::num::wrapping_add_usize;
 ghost use mathlib.Core.Path.{_≡_};
 
-// How far the recording is printed: whether as rows; the messages, the gap bytes and all bytes so far; where the bytes of the buffer that are yet to be
+// What is printed of the messages: a line of each, the rows of its observations, or the breaks of lock in those of one TYPE.
+enum Printed {
+    Listing,
+    Rows,
+    Breaks(u8),
+}
+
+// How far the recording is printed: as what; the messages, the gap bytes and all bytes so far; where the bytes of the buffer that are yet to be
 // divided begin and end; whether no more will come; the bytes of text that wait to be written; and whether there is more to do.
 struct Progress {
-    rows: bool,
+    printed: Printed,
     messages: u64,
     gap: u64,
     position: u64,
@@ -97,12 +105,23 @@ fn written(progress: Progress, text: &[u8]) -> Progress {
     }
 }
 
-// A line for the message, or a row for each of its observations.
-fn put_message(progress: Progress, message: &[u8], text: &mut [u8]) -> usize {
-    if progress.rows {
-        return lines::put_rows(text, progress.waiting, progress.position, message);
+// What is printed of a message; the breaks go by a history, and through a list.
+fn put_message(
+    progress: Progress,
+    message: &[u8],
+    text: &mut [u8],
+    history: &mut [u64; history::WORDS],
+    list: &mut [u64],
+) -> usize {
+    let printed = progress.printed;
+    let at = progress.waiting;
+    match printed {
+        Printed::Listing => lines::put_line(text, at, progress.position, message),
+        Printed::Rows => lines::put_rows(text, at, progress.position, message),
+        Printed::Breaks(_) => {
+            lines::put_breaks(text, at, progress.position, message, history, list)
+        }
     }
-    lines::put_line(text, progress.waiting, progress.position, message)
 }
 
 // ---- the division
@@ -118,8 +137,14 @@ fn passed(progress: Progress, count: usize) -> Progress {
 }
 
 // A message. What waits is written out where it is much, so that a message's text always has room behind it: of 255 rows none takes 250 bytes.
-fn given(progress: Progress, message: &[u8], text: &mut [u8]) -> Progress {
-    let waiting = put_message(progress, message, text);
+fn given(
+    progress: Progress,
+    message: &[u8],
+    text: &mut [u8],
+    history: &mut [u64; history::WORDS],
+    list: &mut [u64],
+) -> Progress {
+    let waiting = put_message(progress, message, text, history, list);
     let next = Progress {
         messages: wrapping_add_u64(progress.messages, 1),
         position: wrapping_add_u64(progress.position, message.len() as u64),
@@ -133,13 +158,21 @@ fn given(progress: Progress, message: &[u8], text: &mut [u8]) -> Progress {
     next
 }
 
-// The end: the last line of the listing, which rows have none of, and all that waits.
-fn ended(progress: Progress, text: &mut [u8]) -> Progress {
-    let bytes = progress.position;
-    let mut all = progress.waiting;
-    if !progress.rows {
-        all = lines::put_end(text, all, bytes, progress.messages, progress.gap);
+// The last line, which the listing alone has.
+fn put_last(progress: Progress, text: &mut [u8]) -> usize {
+    let printed = progress.printed;
+    let at = progress.waiting;
+    match printed {
+        Printed::Listing => {
+            lines::put_end(text, at, progress.position, progress.messages, progress.gap)
+        }
+        Printed::Rows | Printed::Breaks(_) => at,
     }
+}
+
+// The end: the last line, and all that waits.
+fn ended(progress: Progress, text: &mut [u8]) -> Progress {
+    let all = put_last(progress, text);
     write_out(text, all);
     Progress {
         going: false,
@@ -157,14 +190,20 @@ fn more(progress: Progress, buffer: &mut [u8], text: &[u8]) -> Progress {
 }
 
 // The next message of the buffer; or what is not settled yet, and the next block behind it; or the end.
-fn turn(progress: Progress, buffer: &mut [u8], text: &mut [u8]) -> Progress {
+fn turn(
+    progress: Progress,
+    buffer: &mut [u8],
+    text: &mut [u8],
+    history: &mut [u64; history::WORDS],
+    list: &mut [u64],
+) -> Progress {
     let rest = part(buffer, progress.from, progress.end);
     let passage = division::walk(progress.over, rest);
     let walked = passage.walked;
     match walked {
         Walked::Message(at, length, _) => {
             let message = part(rest, at, wrapping_add_usize(at, length));
-            given(passed(progress, at), message, text)
+            given(passed(progress, at), message, text, history, list)
         }
         Walked::Unsettled(at) => {
             if progress.over {
@@ -176,11 +215,16 @@ fn turn(progress: Progress, buffer: &mut [u8], text: &mut [u8]) -> Progress {
 }
 
 // Turn after turn until there is no more to do. An input has an end, though nothing says so: the turns are counted up to a number that no run reaches.
-fn print_recording(rows: bool, heading: &[u8]) {
+fn print_recording(printed: Printed, heading: &[u8]) {
     let mut buffer = [0u8; 131072];
     let mut text = [0u8; 131072];
+    let mut history = [0u64; history::WORDS];
+    let mut list = [0u64; history::NUMBERS];
+    if let Printed::Breaks(signal) = printed {
+        history::fresh(&mut history, signal);
+    }
     let mut progress = Progress {
-        rows,
+        printed,
         messages: 0,
         gap: 0,
         position: 0,
@@ -191,7 +235,7 @@ fn print_recording(rows: bool, heading: &[u8]) {
         going: true,
     };
     for _ in 0..u64::MAX {
-        progress = turn(progress, &mut buffer, &mut text);
+        progress = turn(progress, &mut buffer, &mut text, &mut history, &mut list);
         if !progress.going {
             return;
         }
@@ -202,7 +246,7 @@ fn print_recording(rows: bool, heading: &[u8]) {
 pub fn listing()
     ensures { λ r. ⌜ r ≡ tt ⌝ }
 {
-    print_recording(false, b"at bytes form obs time\n");
+    print_recording(Printed::Listing, b"at bytes form obs time\n");
 }
 
 // The rows for the people who compute the track.
@@ -210,7 +254,30 @@ pub fn rows()
     ensures { λ r. ⌜ r ≡ tt ⌝ }
 {
     let heading = b"at time form type sid cn0 condition range phase bits polarity rate lock\n";
-    print_recording(true, heading);
+    print_recording(Printed::Rows, heading);
+}
+
+// The word that a program is started with, and nothing else, as a number: one of more than 64 bytes is none.
+fn started_with() -> Small {
+    if os::arg_count() != 2 {
+        return Small::Other;
+    }
+    let mut word = [0u8; 64];
+    let length = os::arg(1, &mut word);
+    argument::small_number(text::front(&word, length))
+}
+
+// The breaks of lock in the messages of the TYPE that the program is started with.
+pub fn breaks()
+    ensures { λ r. ⌜ r ≡ tt ⌝ }
+{
+    match started_with() {
+        Small::Number(signal) => print_recording(Printed::Breaks(signal), b"at sid time break\n"),
+        Small::Other => {
+            let line = b"error: the argument has to be a TYPE, 0 to 255 in decimal digits\n";
+            io::write_all(libc::STDERR_FILENO, line);
+        }
+    }
 }
 
 // ---- the account

@@ -7,10 +7,18 @@ use Rattle.report.proofs.print_recording.Statement.{statement}
 use Rattle.report.proofs.print_recording.Tie as tie
 
 abbrev Inv-loop : tie.InvT-loop
-Inv-loop rows heading buffer₀ text₀ progress₀ counter₀ buffer text progress counter = (length buffer ≡ 131072) × (length text ≡ 131072)
+Inv-loop heading buffer₀ text₀ history₀ list₀ progress₀ counter₀ buffer text history list progress counter =
+    (length buffer ≡ 131072) × (length text ≡ 131072) × (length list ≡ 765)
 
 abbrev μ-loop : tie.MeasureT-loop
-μ-loop rows heading buffer₀ text₀ progress₀ counter₀ buffer text progress counter = 18446744073709551615 - counter
+μ-loop heading buffer₀ text₀ history₀ list₀ progress₀ counter₀ buffer text history list progress counter =
+    18446744073709551615 - counter
+
+enum-known-printed : tie.Need-enum-known-printed Inv-loop μ-loop
+enum-known-printed c = search needs
+
+fresh-requires : tie.Need-fresh-requires Inv-loop μ-loop
+fresh-requires c κs = search needs
 
 slice-aggregate-put-all : tie.Need-slice-aggregate-put-all Inv-loop μ-loop
 slice-aggregate-put-all c = search needs
@@ -26,6 +34,9 @@ slice-aggregate-turn c = search needs
 
 slice-aggregate-turn-2 : tie.Need-slice-aggregate-turn-2 Inv-loop μ-loop
 slice-aggregate-turn-2 c = search needs
+
+slice-aggregate-turn-3 : tie.Need-slice-aggregate-turn-3 Inv-loop μ-loop
+slice-aggregate-turn-3 c = search needs
 
 turn-requires : tie.Need-turn-requires Inv-loop μ-loop
 turn-requires c κs = search needs
@@ -51,11 +62,14 @@ print-recording-spec =
     (tie.spec
     Inv-loop
     μ-loop
+    enum-known-printed
+    fresh-requires
     slice-aggregate-put-all
     put-all-requires
     loop-holds
     slice-aggregate-turn
     slice-aggregate-turn-2
+    slice-aggregate-turn-3
     turn-requires
     returns
     add-counter
