@@ -4,8 +4,8 @@
  * Every function takes all inputs and ends. A refusal is a number of the table below, 0 for none; a refused call changes no byte that was lent, nor
  * the state, and every other number that it answers is 0. Nobody has to check anything first.
  *
- * A buffer is lent for the call alone, as a pointer that is not NULL, also where its length is 0, and that many bytes. Buffers of one call must not
- * overlap each other or the state. Nothing is kept between calls but what the caller keeps: two threads may use two states at once.
+ * A buffer is lent for the call alone, as a pointer that is not NULL, also where its length is 0, and that many bytes or numbers. Buffers of one call must
+ * not overlap each other or the state. Nothing is kept between calls but what the caller keeps: two threads may use two states at once.
  */
 #ifndef CABLESOUND_H
 #define CABLESOUND_H
@@ -26,6 +26,10 @@ extern "C" {
 /* The bytes of a RANGECMP record. */
 #define CS_RANGECMP_BYTES 24
 
+/* The words of a history of lock, and the numbers that a list of breaks must hold at least: three for each of CS_OBSERVATIONS. */
+#define CS_HISTORY_WORDS 769
+#define CS_BREAKS_NUMBERS 765
+
 /* Refusals. Where several hold, a call answers the one that its own comment names first. */
 enum {
     CS_TOO_SHORT = 1,      /* fewer than 15 bytes */
@@ -35,7 +39,7 @@ enum {
     CS_NO_OBSERVATION = 5, /* no observation has this index */
     CS_NO_ROOM = 6,        /* the output is too short for the message or the record */
     CS_WRONG_FORM = 7,     /* a conversion from the wrong form, or to the old form with TYPE other than 0 */
-    CS_SMALL_BUFFER = 8,   /* window or output shorter than CS_LONGEST */
+    CS_SMALL_BUFFER = 8,   /* window or output shorter than CS_LONGEST; a list of breaks shorter than CS_BREAKS_NUMBERS */
     CS_BAD_STATE = 9,      /* a state with held above CS_LONGEST, total above CS_STREAM_BYTES, gap + held above total, or summed above 2^60 */
     CS_ENDED = 10,         /* feeding after the first accepted finish */
     CS_TOO_LONG = 11,      /* the stream would be longer than CS_STREAM_BYTES */
@@ -74,6 +78,12 @@ enum {
     CS_POLARITY_UNDEFINED = 5 /* code 1 to 4 or 6, which 264-21 does not define: do as with an unknown one */
 };
 
+/* Which of the two breaks. */
+enum {
+    CS_CLOCK_BACK = 1, /* the time is lower than where the SID was last seen, as at the end of a GNSS week */
+    CS_NEW_LOCK = 2    /* it is not, and the lock count is lower */
+};
+
 /* One reader's state. Keep it for the whole stream and write nothing into it; cs_fresh gives a new one. ended is 0, or anything else.
  *
  * summed is for those who schedule: the bytes run through the checksum so far, in the end the same however the stream is cut. A stream costs at most
@@ -110,6 +120,9 @@ typedef struct { uint64_t refusal; cs_observation observation; } cs_observed;
 
 /* What a writing call answers: the length of the message or the record at the front of the output. */
 typedef struct { uint64_t refusal, length; } cs_written;
+
+/* What cs_breaks answers: how many breaks stand at the front of the list. */
+typedef struct { uint64_t refusal, count; } cs_listed;
 
 /* A phase: its kind and, where it has cycles, the polarity code, 0 to 7, and the cycles; else 0. */
 typedef struct { uint64_t kind, code; double cycles; } cs_cycles;
@@ -179,6 +192,18 @@ cs_answer cs_feed(cs_state *state, const uint8_t *piece, size_t piece_length, ui
 /* Says that the stream is over, and gives the messages that are still held, one a call, until it answers CS_END; after that it answers the same end
  * each time. It leaves window and output as cs_feed does; at the end the output stays as it was and the window is all zeros. Refuses with 8, 9. */
 cs_answer cs_finish(cs_state *state, uint8_t *window, size_t window_length, uint8_t *output, size_t output_length);
+
+/* Begins a history of lock for the messages of this TYPE: all of its CS_HISTORY_WORDS words are written. The first is TYPE; then SID s has three, from
+ * 1 + 3 s on: 0 where it was not seen yet, 1 where it was; the last time; the last lock count. */
+void cs_breaks_fresh(uint64_t *history, uint8_t signal);
+
+/* Lists the breaks in exactly one message, and keeps in the history what the next message is held against: give it the messages of a recording in their
+ * order, and nobody else writes the history between calls. Observations are taken in order, within one message too: at each later appearance of a SID a
+ * lower time is CS_CLOCK_BACK, else a lower lock count CS_NEW_LOCK, else there is no break; in every case the SID's last time and lock count are replaced.
+ * A break is three numbers of the list: the SID, the time of the message, and which of the two; every number behind the breaks stays. A message of the old
+ * form or of another TYPE has none, and the history stays. Refuses with 1 to 4, then 8, also a message that would be passed over. list_length counts
+ * numbers. Whatever words the history has are taken: any word but 0 is seen, and times and counts are compared as the words that they are. */
+cs_listed cs_breaks(const uint8_t *message, size_t length, uint64_t *history, uint64_t *list, size_t list_length);
 
 /* The range in micrometres of a pseudorange as PR has it: PR times 149896229, plus 7,500, divided by 15,000, rounded down. That is as far as light goes
  * in PR at 299792458 m/s, to the nearest. Before version 1.2 it went by the standards' printed factor and was 3.3 parts in 10^10 low. */
