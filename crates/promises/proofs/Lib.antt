@@ -44,3 +44,5 @@ pub mod RunRight
 pub mod AnyCut
 pub mod InPlace
 pub mod FinishAgain
+pub mod OwnBreaks
+pub mod HistoryWords

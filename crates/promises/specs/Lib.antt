@@ -13,3 +13,5 @@ pub mod Numbers
 pub mod Printed
 pub mod Calls
 pub mod InPlace
+pub mod History
+pub mod HistoryCalls

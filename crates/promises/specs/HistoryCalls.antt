@@ -1,0 +1,41 @@
+-- E8: calls for breaks, one a message, as a host makes them. Definitions only.
+use Prim.Native.Nat.{ℕ, _*_}
+use mathlib.Core.List.{List, [], _∷_}
+use lib.ListN.{length, take}
+use Rattle.refusal.specs.declared.Refusal.{Refusal}
+use Rattle.macm.specs.declared.Head.{Head}
+use Rattle.macm.specs.declared.Head.the-variants.{Refused as NoHead, Read}
+use Rattle.macm.specs.Read.{headOf}
+use Rattle.history.specs.declared.Breaks.{Breaks}
+use Rattle.history.specs.declared.Breaks.the-variants.{Refused, Listed}
+use Rattle.history.specs.Words.{freshWords}
+use Rattle.history.specs.Breaks.{Entry, numbersOf}
+use Rattle.history.specs.Calls.{nextCall}
+
+-- what a call gives: a refusal, or the numbers that it says are listed
+pub data Given : Type 0 where
+  refused : Refusal → Given
+  listed : List ℕ → Given
+
+abbrev pub givenBy : Breaks → List ℕ → Given
+givenBy (Refused r) list = refused r
+givenBy (Listed n) list = listed (take (3 * n) list)
+
+-- the history goes from call to call as each leaves it; each is lent a list of its own, in which anything may stand
+unfoldable pub callsFrom : List ℕ → (ℕ → List ℕ) → List (List ℕ) → List Given
+callsFrom ws lists [] = []
+callsFrom ws lists (m ∷ ms) = let c = nextCall m ws (lists (length ms)) in givenBy (c .answer) (c .list) ∷ callsFrom (c .words) lists ms
+
+-- from a fresh history
+abbrev pub calls : ℕ → (ℕ → List ℕ) → List (List ℕ) → List Given
+calls type lists ms = callsFrom (freshWords type) lists ms
+
+-- what the messages' entries ask of the calls; what is no message is refused as reading its header refuses it
+abbrev pub owedBy : Head → List Entry → Given
+owedBy (NoHead r) entries = refused r
+owedBy (Read h n) entries = listed (numbersOf entries)
+
+unfoldable pub owed : List (List ℕ) → List (List Entry) → List Given
+owed [] lists = []
+owed (m ∷ ms) [] = []
+owed (m ∷ ms) (entries ∷ later) = owedBy (headOf m) entries ∷ owed ms later
