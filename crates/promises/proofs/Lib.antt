@@ -46,3 +46,5 @@ pub mod InPlace
 pub mod FinishAgain
 pub mod OwnBreaks
 pub mod HistoryWords
+pub mod Appearing
+pub mod HistoryRuns

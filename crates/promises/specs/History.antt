@@ -1,28 +1,29 @@
 -- E8: the breaks of lock, over all messages so far, from the first: a list of messages to a list of lists. Definitions only.
-use Prim.Native.Nat.{ℕ, zero, suc}
+use Prim.Native.Nat.{ℕ}
 use mathlib.Core.Bool.{cond}
 use mathlib.Core.List.{List, [], _∷_, _++_, map}
 use lib.Dec.{ltb, eqb}
+use Rattle.units.specs.Units.{countIn}
+use Rattle.macm.specs.declared.Observation.{Observation}
 use Rattle.macm.specs.declared.Head.{Head}
 use Rattle.macm.specs.declared.Head.the-variants.{Refused, Read}
-use Rattle.macm.specs.Read.{headOf, observedOf}
+use Rattle.macm.specs.Read.{headOf}
 use Rattle.history.specs.declared.Appearance.{Appearance}
-use Rattle.history.specs.Appearances.{appearanceOf, isOf}
+use Rattle.history.specs.Appearances.{isOf}
 use Rattle.history.specs.Breaks.{Entry, clockBack, newLock, entryOf}
+use Rattle.promises.specs.Again.{observationsOf}
 
--- ---- the appearances of SIDs in a message, in order: each with the time of the message and its lock count
--- in the first k observations
-unfoldable pub seenUpTo : ℕ → ℕ → List ℕ → List Appearance
-seenUpTo zero time m = []
-seenUpTo (suc k) time m = seenUpTo k time m ++ appearanceOf time (observedOf m k)
+-- ---- the appearances of SIDs in a message, in order: each observation's, with the time of the message
+abbrev pub appears : ℕ → Observation → Appearance
+appears time o = record { sid = o .sid; time = time; lock = countIn (o .lock) }
 
 -- old messages and other TYPEs are passed over, and so is what is no message
-abbrev pub seenBy : ℕ → Head → List ℕ → List Appearance
-seenBy type (Refused r) m = []
-seenBy type (Read h n) m = cond (isOf type (h .form)) (seenUpTo n (h .time) m) []
+abbrev pub seenBy : ℕ → Head → List Observation → List Appearance
+seenBy type (Refused r) os = []
+seenBy type (Read h n) os = cond (isOf type (h .form)) (map (appears (h .time)) os) []
 
 abbrev pub seenIn : ℕ → List ℕ → List Appearance
-seenIn type m = seenBy type (headOf m) m
+seenIn type m = seenBy type (headOf m) (observationsOf m)
 
 -- ---- the breaks
 -- the last appearance of a SID among some, if there is one

@@ -1,16 +1,22 @@
 -- E8: calls for breaks, one a message, as a host makes them. Definitions only.
 use Prim.Native.Nat.{ℕ, _*_}
+use mathlib.Core.Path.{_≡_}
 use mathlib.Core.List.{List, [], _∷_}
 use lib.ListN.{length, take}
+use Rattle.octets.specs.Numbers.{Bytes}
 use Rattle.refusal.specs.declared.Refusal.{Refusal}
 use Rattle.macm.specs.declared.Head.{Head}
 use Rattle.macm.specs.declared.Head.the-variants.{Refused as NoHead, Read}
 use Rattle.macm.specs.Read.{headOf}
+use Rattle.macm.specs.Check.{verdict}
+use Rattle.macm.specs.Answers.{checkNumber}
 use Rattle.history.specs.declared.Breaks.{Breaks}
 use Rattle.history.specs.declared.Breaks.the-variants.{Refused, Listed}
 use Rattle.history.specs.Words.{freshWords}
 use Rattle.history.specs.Breaks.{Entry, numbersOf}
 use Rattle.history.specs.Calls.{nextCall}
+use Rattle.promises.specs.Run.{Run}
+use Rattle.promises.specs.Run as run
 
 -- what a call gives: a refusal, or the numbers that it says are listed
 pub data Given : Type 0 where
@@ -39,3 +45,20 @@ unfoldable pub owed : List (List ℕ) → List (List Entry) → List Given
 owed [] lists = []
 owed (m ∷ ms) [] = []
 owed (m ∷ ms) (entries ∷ later) = owedBy (headOf m) entries ∷ owed ms later
+
+-- ---- which messages
+abbrev pub Every : (List ℕ → Type 0) → List (List ℕ) → Type 0
+Every P [] = Unit
+Every P (m ∷ ms) = P m × Every P ms
+
+-- bytes that the message check accepts
+pub record Message (m : List ℕ) : Type 0 where
+  pub bytes : Bytes m
+  pub accepted : checkNumber (verdict m) ≡ 0
+
+-- those that a run gives, in order
+abbrev pub givenIn : Run → List (List ℕ)
+givenIn (run.refused r) = []
+givenIn run.unfinished = []
+givenIn (run.ended g) = []
+givenIn (run.gave g m r) = m ∷ givenIn r
