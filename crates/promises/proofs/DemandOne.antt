@@ -18,6 +18,7 @@ use Rattle.refusal.specs.Written.{writtenNumber, writtenLength}
 use Rattle.compose.specs.Start.{startOf, startBytes}
 use Rattle.compose.specs.Set.{setOf, setBytes}
 use Rattle.compose.specs.Convert.{convertOf, convertBytes}
+use Rattle.history.specs.Calls.{nextCall, claimedCall}
 use Rattle.division.specs.Plain.{nextOf}
 use Rattle.reason.specs.Reason.{reasonOf}
 use Rattle.novatel.specs.declared.Record.{Record}
@@ -25,7 +26,7 @@ use Rattle.novatel.specs.Entries.{readingOf, writingOf, writingBytes, correctio
 use Rattle.stream.specs.declared.State.{State}
 use Rattle.stream.specs.Reader.{feedCall, finishCall}
 use Rattle.owed.specs.Meets.{AsksNothing}
-use Rattle.promises.specs.Numbers.{headNumber, observedNumber, nextNumber, reasonNumber, recordNumber, correctionNumber, answerNumber, Refuses, Unchanged, CheckTable, ClaimedTable, HeadTable, IndexTable, KnownTable, StartTable, ConvertTable, NextTable, ReasonTable, FinishTable, FeedTable, RecordTable, CorrectionTable, RecordWriteTable}
+use Rattle.promises.specs.Numbers.{headNumber, observedNumber, breaksNumber, nextNumber, reasonNumber, recordNumber, correctionNumber, answerNumber, Refuses, Unchanged, UnchangedHistory, CheckTable, ClaimedTable, HeadTable, IndexTable, KnownTable, StartTable, ConvertTable, BreaksTable, ClaimedBreaksTable, NextTable, ReasonTable, FinishTable, FeedTable, RecordTable, CorrectionTable, RecordWriteTable}
 use Rattle.promises.proofs.Numbers as numbers
 use Rattle.promises.proofs.Unchanged as unchanged
 use Rattle.octets.proofs as octets
@@ -36,6 +37,8 @@ use Rattle.macm.proofs as macm
 use Rattle.novatel.proofs as novatel
 use Rattle.compose.proofs as compose
 use Rattle.track.proofs as track
+use Rattle.history.proofs as history
+use Rattle.argument.proofs as argument
 use Rattle.front.proofs as front
 use Rattle.division.proofs as division
 use Rattle.stream.proofs as stream
@@ -73,6 +76,13 @@ set-by-number m j = numbers.set-table m j
 pub convert-by-number : (g : Form) (m out : List ℕ) → ConvertTable g m out (writtenNumber (convertOf g m out))
 convert-by-number g m out = numbers.convert-table g m out
 
+-- breaks of lock, with the check and without its checksum
+pub breaks-by-number : (m ws list : List ℕ) → BreaksTable m list (breaksNumber (nextCall m ws list .answer))
+breaks-by-number m ws list = numbers.breaks-table m ws list
+
+pub claimed-breaks-by-number : (m ws list : List ℕ) → ClaimedBreaksTable m list (breaksNumber (claimedCall m ws list .answer))
+claimed-breaks-by-number m ws list = numbers.claimed-breaks-table m ws list
+
 pub next-by-number : (s : List ℕ) (start : ℕ) → NextTable s start (nextNumber (nextOf s start))
 next-by-number s start = numbers.next-table s start
 
@@ -94,7 +104,7 @@ feed-by-number s p w o = numbers.feed-table s w o p
 pub finish-by-number : (s : State) (w o : List ℕ) → FinishTable s w o (answerNumber (finishCall s w o .answer))
 finish-by-number s w o = numbers.finish-table s w o
 
--- ---- a refusal changes no lent buffer and hands back no length
+-- ---- a refusal changes no lent buffer and no history, and hands back no length
 pub start-refused : (h : Header) (n : ℕ) (out : List ℕ) → Refuses (startOf h n out) → startBytes h n out ≡ out
 start-refused h n out r = unchanged.start-unchanged h n out r
 
@@ -106,6 +116,12 @@ convert-refused g m out r = unchanged.convert-unchanged g m out r
 
 pub record-write-refused : (r : Record) (out : List ℕ) → Refuses (writingOf r out) → writingBytes r out ≡ out
 record-write-refused r out h = unchanged.record-unchanged r out h
+
+pub breaks-refused : (m ws list : List ℕ) → UnchangedHistory ws list (nextCall m ws list)
+breaks-refused m ws list = unchanged.history-unchanged (headOf m) m ws list
+
+pub claimed-breaks-refused : (m ws list : List ℕ) → UnchangedHistory ws list (claimedCall m ws list)
+claimed-breaks-refused m ws list = unchanged.history-unchanged (claimedHead m) m ws list
 
 pub refused-hands-back-nothing : (w : Written) → Refuses w → writtenLength w ≡ 0
 refused-hands-back-nothing w r = unchanged.no-length w r
@@ -150,6 +166,12 @@ pub track-asks-nothing :
     × AsksNothing track.condition_of.ended track.condition_of.Reads.Asked
 track-asks-nothing = ((λ κs a. tt), (λ κs a. tt), (λ κs a. tt), (λ κs a. tt), (λ κs a. tt))
 
+pub histories-ask-nothing :
+    AsksNothing history.fresh.ended history.fresh.Reads.Asked
+    × AsksNothing history.next_breaks.ended history.next_breaks.Reads.Asked
+    × AsksNothing history.claimed_breaks.ended history.claimed_breaks.Reads.Asked
+histories-ask-nothing = ((λ κs a. tt), (λ κs a. tt), (λ κs a. tt))
+
 pub records-ask-nothing :
     AsksNothing novatel.read_record.ended novatel.read_record.Reads.Asked
     × AsksNothing novatel.write_record.ended novatel.write_record.Reads.Asked
@@ -169,6 +191,8 @@ pub board-asks-nothing :
     × AsksNothing board.cs_next.ended board.cs_next.Reads.Asked
     × AsksNothing board.cs_why.ended board.cs_why.Reads.Asked
     × AsksNothing board.cs_fresh.ended board.cs_fresh.Reads.Asked
+    × AsksNothing board.cs_breaks_fresh.ended board.cs_breaks_fresh.Reads.Asked
+    × AsksNothing board.cs_breaks.ended board.cs_breaks.Reads.Asked
     × AsksNothing board.cs_range_um.ended board.cs_range_um.Reads.Asked
     × AsksNothing board.cs_lock_ms.ended board.cs_lock_ms.Reads.Asked
     × AsksNothing board.cs_phase.ended board.cs_phase.Reads.Asked
@@ -179,7 +203,7 @@ pub board-asks-nothing :
     × AsksNothing board.cs_rangecmp_range_mm.ended board.cs_rangecmp_range_mm.Reads.Asked
     × AsksNothing board.cs_rangecmp_adr_512ths.ended board.cs_rangecmp_adr_512ths.Reads.Asked
 board-asks-nothing =
-    ((λ κs a. tt), (λ κs a. tt), (λ κs a. tt), (λ κs a. tt), (λ κs a. tt), (λ κs a. tt), (λ κs a. tt), (λ κs a. tt), (λ κs a. tt), (λ κs a. tt), (λ κs a. tt), (λ κs a. tt), (λ κs a. tt), (λ κs a. tt), (λ κs a. tt), (λ κs a. tt), (λ κs a. tt), (λ κs a. tt), (λ κs a. tt))
+    ((λ κs a. tt), (λ κs a. tt), (λ κs a. tt), (λ κs a. tt), (λ κs a. tt), (λ κs a. tt), (λ κs a. tt), (λ κs a. tt), (λ κs a. tt), (λ κs a. tt), (λ κs a. tt), (λ κs a. tt), (λ κs a. tt), (λ κs a. tt), (λ κs a. tt), (λ κs a. tt), (λ κs a. tt), (λ κs a. tt), (λ κs a. tt), (λ κs a. tt), (λ κs a. tt))
 
 -- and the parts that the entries are made of
 pub bytes-ask-nothing :
@@ -232,6 +256,7 @@ pub words-ask-nothing :
     × AsksNothing words.head_words.ended words.head_words.Reads.Asked
     × AsksNothing words.observed_words.ended words.observed_words.Reads.Asked
     × AsksNothing words.written_words.ended words.written_words.Reads.Asked
+    × AsksNothing words.listed_words.ended words.listed_words.Reads.Asked
     × AsksNothing words.found_words.ended words.found_words.Reads.Asked
     × AsksNothing words.reason_words.ended words.reason_words.Reads.Asked
     × AsksNothing words.answer_words.ended words.answer_words.Reads.Asked
@@ -240,7 +265,7 @@ pub words-ask-nothing :
     × AsksNothing words.record_words.ended words.record_words.Reads.Asked
     × AsksNothing words.adr_words.ended words.adr_words.Reads.Asked
 words-ask-nothing =
-    ((λ κs a. tt), (λ κs a. tt), (λ κs a. tt), (λ κs a. tt), (λ κs a. tt), (λ κs a. tt), (λ κs a. tt), (λ κs a. tt), (λ κs a. tt), (λ κs a. tt), (λ κs a. tt), (λ κs a. tt), (λ κs a. tt))
+    ((λ κs a. tt), (λ κs a. tt), (λ κs a. tt), (λ κs a. tt), (λ κs a. tt), (λ κs a. tt), (λ κs a. tt), (λ κs a. tt), (λ κs a. tt), (λ κs a. tt), (λ κs a. tt), (λ κs a. tt), (λ κs a. tt), (λ κs a. tt))
 
 pub text-asks-nothing :
     AsksNothing text.put.ended text.put.Reads.Asked
@@ -258,9 +283,11 @@ pub text-asks-nothing :
     × AsksNothing lines.put_line.ended lines.put_line.Reads.Asked
     × AsksNothing lines.put_end.ended lines.put_end.Reads.Asked
     × AsksNothing lines.put_rows.ended lines.put_rows.Reads.Asked
+    × AsksNothing lines.put_breaks.ended lines.put_breaks.Reads.Asked
+    × AsksNothing argument.small_number.ended argument.small_number.Reads.Asked
     × AsksNothing account.put_report.ended account.put_report.Reads.Asked
 text-asks-nothing =
-    ((λ κs a. tt), (λ κs a. tt), (λ κs a. tt), (λ κs a. tt), (λ κs a. tt), (λ κs a. tt), (λ κs a. tt), (λ κs a. tt), (λ κs a. tt), (λ κs a. tt), (λ κs a. tt), (λ κs a. tt), (λ κs a. tt), (λ κs a. tt), (λ κs a. tt), (λ κs a. tt))
+    ((λ κs a. tt), (λ κs a. tt), (λ κs a. tt), (λ κs a. tt), (λ κs a. tt), (λ κs a. tt), (λ κs a. tt), (λ κs a. tt), (λ κs a. tt), (λ κs a. tt), (λ κs a. tt), (λ κs a. tt), (λ κs a. tt), (λ κs a. tt), (λ κs a. tt), (λ κs a. tt), (λ κs a. tt), (λ κs a. tt))
 
 -- the two over a lent state are walked by hand and so have no `Reads`: their `requires` is empty in every model of the logic
 pub cs-feed-asks-nothing : (w : World) (κs : Lfts 4) (a : Args board.cs_feed.signature κs) → board.cs_feed.clauses (w .𝓤) (w .H) (w .𝓖 .A) (w .𝓜 .mem) (w .𝓡 .run) κs a .requires tt ≡ emp (w .𝓤)

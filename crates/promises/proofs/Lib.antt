@@ -48,3 +48,4 @@ pub mod OwnBreaks
 pub mod HistoryWords
 pub mod Appearing
 pub mod HistoryRuns
+pub mod Histories

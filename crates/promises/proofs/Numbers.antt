@@ -11,12 +11,14 @@ use borrow.Author.Tests.{ltb-true, ltb-false, leb-true, leb-false, eqb-true, eqb
 use Rattle.octets.specs.Begins.{fit, begins}
 use Rattle.octets.specs.Parts.{part}
 use Rattle.refusal.specs.declared.Refusal.{Refusal}
-use Rattle.refusal.specs.declared.Refusal.the-variants.{TooShort, NoSync, WrongLength, NoObservation, NoRoom, OtherForm, PastEnd, OtherLength, OtherSignal, TooWide}
+use Rattle.refusal.specs.declared.Refusal.the-variants.{TooShort, NoSync, WrongLength, NoObservation, NoRoom, OtherForm, SmallBuffer, PastEnd, OtherLength, OtherSignal, TooWide}
 use Rattle.refusal.specs.Numbers.{numberOf}
 use Rattle.refusal.proofs.Numbered.{positive}
 use Rattle.macm.specs.declared.Form.{Form}
 use Rattle.macm.specs.declared.Form.the-variants.{New, Old}
 use Rattle.macm.specs.declared.Header.{Header}
+use Rattle.macm.specs.declared.Head.{Head}
+use Rattle.macm.specs.declared.Head.the-variants.{Refused as NoHead, Read as Headed}
 use Rattle.macm.specs.declared.Verdict.{Verdict}
 use Rattle.macm.specs.declared.Verdict.the-variants.{Refused, Accepted}
 use Rattle.macm.specs.Form.{newSync, oldSync, lead, countAt, size}
@@ -31,6 +33,10 @@ use Rattle.refusal.specs.Written.{writtenNumber}
 use Rattle.compose.specs.Start.{startOf}
 use Rattle.compose.specs.Set.{setBy, setOf}
 use Rattle.compose.specs.Convert.{allowed, convertBy, convertOf}
+use Rattle.history.specs.Words.{typeIn}
+use Rattle.history.specs.Appearances.{appearancesIn}
+use Rattle.history.specs.Breaks.{Kept, afterAll, begun}
+use Rattle.history.specs.Calls.{refusing, listing, callBy, nextCall, claimedCall}
 use Rattle.division.specs.Division.{Division, last, part as onward, divide}
 use Rattle.division.specs.Plain.{firstOf, nextOf}
 use Rattle.division.specs.declared.Next.the-variants.{Refused as NotFound}
@@ -54,7 +60,7 @@ use Rattle.novatel.specs.Record.{recordOf, fits}
 use Rattle.novatel.specs.Entries.{readingOf, writingOf, saysGps, correctionIn, correctionOf}
 use Rattle.novatel.specs.Rolls.{rollsOf, correctedOf}
 use Rattle.promises.proofs.RecordBack.{fitting, holding}
-use Rattle.promises.specs.Numbers.{headNumber, observedNumber, nextNumber, reasonNumber, recordNumber, correctionNumber, answerNumber, OfForm, AfterShape, Differs, CheckTable, ClaimedTable, HeadTable, Index, IndexTable, KnownTable, Room, StartTable, ConvertTable, NextTable, ReasonTable, Buffers, Sound, FinishTable, FeedTable, RecordTable, CorrectionTable, RecordWriteTable}
+use Rattle.promises.specs.Numbers.{headNumber, observedNumber, breaksNumber, nextNumber, reasonNumber, recordNumber, correctionNumber, answerNumber, OfForm, AfterShape, Differs, CheckTable, ClaimedTable, HeadTable, Index, IndexTable, KnownTable, Room, StartTable, ConvertTable, Listable, BreaksTable, ClaimedBreaksTable, NextTable, ReasonTable, Buffers, Sound, FinishTable, FeedTable, RecordTable, CorrectionTable, RecordWriteTable}
 
 -- ---- the message check
 module _ (m : List ℕ) where
@@ -198,6 +204,32 @@ convert-table g m out = go (verdict m) refl
             ((i ≡ 7) × (allowed f g ≡ false)) ⊎ ((allowed f g ≡ true) × Room (size g k) (length out) i)
         test true p = inr (p, room-table (size g k) (length out))
         test false p = inl (refl, p)
+
+-- ---- breaks of lock
+module _ (m ws list : List ℕ) where
+  list-table : (h : Header) (n : ℕ) → Listable list (breaksNumber (callBy (Headed h n) m ws list .answer))
+  unfolding callBy
+  list-table h n = go (ltb (length list) 765) refl (afterAll (begun ws) (appearancesIn (typeIn ws) h n m))
+    where
+      go : (a : Bool) → ltb (length list) 765 ≡ a → (k : Kept) → Listable list (breaksNumber (cond a (refusing SmallBuffer ws list) (listing k list) .answer))
+      go true p k = inl (refl, ltb-true (length list) 765 p)
+      go false p k = inr (refl, ltb-false (length list) 765 p)
+
+  refused-head : (head : Head) (r : Refusal) → NoHead r ≡ head → breaksNumber (callBy head m ws list .answer) ≡ numberOf r
+  unfolding callBy
+  refused-head head r e = ap (λ h. breaksNumber (callBy h m ws list .answer)) (sym e)
+
+  pub breaks-table : BreaksTable m list (breaksNumber (nextCall m ws list .answer))
+  breaks-table = go (verdict m) refl
+    where
+      go : (v : Verdict) → verdict m ≡ v → BreaksTable m list (breaksNumber (nextCall m ws list .answer))
+      go (Refused r) e = let z = refused-head (headOf m) r (head-refused m r e) in inl (z ∙ ap checkNumber (sym e), rw z (positive r))
+      go (Accepted f k) e = inr (f, k, e, rw (sym (head-accepted m f k e)) (list-table (headerOf f m) k))
+
+  pub claimed-breaks-table : ClaimedBreaksTable m list (breaksNumber (claimedCall m ws list .answer))
+  claimed-breaks-table =
+      after-shape m (Listable list) (breaksNumber (claimedCall m ws list .answer)) (λ r e. refused-head (claimedHead m) r (claimed-refused m r e))
+      (λ f n e. rw (sym (claimed-there m f n (headerOf f m) e refl)) (list-table (headerOf f m) n))
 
 -- ---- the plain reader
 pub next-table : (s : List ℕ) (start : ℕ) → NextTable s start (nextNumber (nextOf s start))

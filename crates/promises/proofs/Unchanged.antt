@@ -5,11 +5,13 @@ use mathlib.Core.Bool.{Bool, true, false, cond}
 use mathlib.Core.List.{List}
 use lib.ListN.{length}
 use lib.Dec.{ltb, leb}
-use Rattle.refusal.specs.declared.Refusal.the-variants.{NoObservation, NoRoom, OtherForm, TooWide}
+use Rattle.refusal.specs.declared.Refusal.the-variants.{NoObservation, NoRoom, OtherForm, SmallBuffer, TooWide}
 use Rattle.octets.specs.Parts.{over}
 use Rattle.macm.specs.declared.Form.{Form}
 use Rattle.macm.specs.declared.Header.{Header}
 use Rattle.macm.specs.declared.Observation.{Observation}
+use Rattle.macm.specs.declared.Head.{Head}
+use Rattle.macm.specs.declared.Head.the-variants.{Refused as NoHead, Read}
 use Rattle.macm.specs.declared.Verdict.{Verdict}
 use Rattle.macm.specs.declared.Verdict.the-variants.{Refused, Accepted}
 use Rattle.macm.specs.Form.{size}
@@ -23,11 +25,15 @@ use Rattle.compose.specs.Convert.{allowed, converted, convertBy, convertOf, con
 use Rattle.novatel.specs.declared.Record.{Record}
 use Rattle.novatel.specs.Record.{recordBytes, fits}
 use Rattle.novatel.specs.Entries.{writingOf, writingBytes}
+use Rattle.history.specs.Words.{typeIn}
+use Rattle.history.specs.Appearances.{appearancesIn}
+use Rattle.history.specs.Breaks.{Kept, afterAll, begun}
+use Rattle.history.specs.Calls.{listNumbers, refusing, listing, callBy}
 use Rattle.stream.specs.declared.State.{State}
 use Rattle.stream.specs.Feed.{Fed, given, more, feed, finish}
 use Rattle.stream.specs.Reader.{fedCall, feedCall, finishedCall, finishCall}
 use Rattle.stream.proofs.Cases.{finish-cases, feed-cases}
-use Rattle.promises.specs.Numbers.{Refuses, Unchanged}
+use Rattle.promises.specs.Numbers.{Refuses, Unchanged, UnchangedHistory}
 
 -- ---- writing
 pub start-unchanged : (h : Header) (n : ℕ) (out : List ℕ) → Refuses (startOf h n out) → startBytes h n out ≡ out
@@ -76,6 +82,16 @@ record-unchanged r out = go (fits r) (leb 24 (length out))
 pub no-length : (w : Written) → Refuses w → writtenLength w ≡ 0
 no-length (NotWritten r) h = refl
 no-length (Length n) h = absurd (h refl)
+
+-- ---- breaks of lock, by whatever header
+pub history-unchanged : (head : Head) (m ws list : List ℕ) → UnchangedHistory ws list (callBy head m ws list)
+unfolding callBy
+history-unchanged (NoHead r) m ws list h = (refl, refl)
+history-unchanged (Read k n) m ws list h = go (ltb (length list) listNumbers) (afterAll (begun ws) (appearancesIn (typeIn ws) k n m)) h
+  where
+    go : (b : Bool) (k : Kept) → UnchangedHistory ws list (cond b (refusing SmallBuffer ws list) (listing k list))
+    go true k h = (refl, refl)
+    go false k h = absurd (h refl)
 
 -- ---- the stream reader
 module _ (s : State) (w o : List ℕ) where

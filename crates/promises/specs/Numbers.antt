@@ -21,6 +21,9 @@ use Rattle.macm.specs.Answers.{checkNumber}
 use Rattle.refusal.specs.declared.Written.{Written}
 use Rattle.refusal.specs.Written.{writtenNumber}
 use Rattle.compose.specs.Convert.{allowed}
+use Rattle.history.specs.declared.Breaks.{Breaks}
+use Rattle.history.specs.declared.Breaks.the-variants.{Refused as NotListed, Listed}
+use Rattle.history.specs.Calls as history
 use Rattle.division.specs.declared.Next.{Next}
 use Rattle.division.specs.declared.Next.the-variants.{Refused as NotFound, Message as Found, End as NoneLeft}
 use Rattle.reason.specs.declared.Reason.{Reason}
@@ -74,6 +77,10 @@ answerNumber NeedsMore = 0
 answerNumber (Message n g t) = 0
 answerNumber (End g) = 0
 
+abbrev pub breaksNumber : Breaks → ℕ
+breaksNumber (NotListed r) = numberOf r
+breaksNumber (Listed n) = 0
+
 -- a call of writing refuses where its number is not 0
 abbrev pub Refuses : Written → Type 0
 Refuses w = (writtenNumber w ≡ 0 → ⊥)
@@ -81,6 +88,10 @@ Refuses w = (writtenNumber w ≡ 0 → ⊥)
 -- a call of the stream reader whose number is not 0 leaves the state, the window and the output of its entry
 abbrev pub Unchanged : State → List ℕ → List ℕ → Call → Type 0
 Unchanged s w o c = (answerNumber (c .answer) ≡ 0 → ⊥) → (c .state ≡ s) × (c .window ≡ w) × (c .output ≡ o)
+
+-- a call for breaks whose number is not 0 leaves the history and the list of its entry
+abbrev pub UnchangedHistory : List ℕ → List ℕ → history.Call → Type 0
+UnchangedHistory ws list c = (breaksNumber (c .answer) ≡ 0 → ⊥) → (c .words ≡ ws) × (c .list ≡ list)
 
 -- ---- the message check: 1 fewer than 15 bytes; 2 the first four are neither sync string; 3 the number of bytes is not the one that form and N
 -- require; then what follows
@@ -135,6 +146,17 @@ StartTable h k out n = Room (size (h .form) k) (length out) n
 -- 7, before 6: the message is not of the form converted from, or, to the old form, TYPE is not 0
 abbrev pub ConvertTable : Form → List ℕ → List ℕ → ℕ → Type 0
 ConvertTable g m out n = AfterCheck (λ f k i. ((i ≡ 7) × (allowed f g ≡ false)) ⊎ ((allowed f g ≡ true) × Room (size g k) (length out) i)) m n
+
+-- 8 the list has no room for 255 entries, of three numbers each: whether the message is passed over or not
+abbrev pub Listable : List ℕ → ℕ → Type 0
+Listable list n = ((n ≡ 8) × (length list < 765)) ⊎ ((n ≡ 0) × (765 ≤ length list))
+
+-- after 1 to 4, or, where the checksum has been run before, 1 to 3
+abbrev pub BreaksTable : List ℕ → List ℕ → ℕ → Type 0
+BreaksTable m list n = AfterCheck (λ f k i. Listable list i) m n
+
+abbrev pub ClaimedBreaksTable : List ℕ → List ℕ → ℕ → Type 0
+ClaimedBreaksTable m list n = AfterShape (Listable list) m n
 
 -- 12 the start is past the end of the slice
 abbrev pub NextTable : List ℕ → ℕ → ℕ → Type 0
