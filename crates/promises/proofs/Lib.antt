@@ -49,3 +49,4 @@ pub mod HistoryWords
 pub mod Appearing
 pub mod HistoryRuns
 pub mod Histories
+pub mod WrongHistories
