@@ -195,7 +195,7 @@ cs_answer cs_finish(cs_state *state, uint8_t *window, size_t window_length, uint
 
 /* Begins a history of lock for the messages of this TYPE: all of its CS_HISTORY_WORDS words are written. The first is TYPE; then SID s has three, from
  * 1 + 3 s on: 0 where it was not seen yet, 1 where it was; the last time; the last lock count. */
-void cs_breaks_fresh(uint64_t *history, uint8_t signal);
+void cs_breaks_fresh(uint64_t history[CS_HISTORY_WORDS], uint8_t signal);
 
 /* Lists the breaks in exactly one message, and keeps in the history what the next message is held against: give it the messages of a recording in their
  * order, and nobody else writes the history between calls. Observations are taken in order, within one message too: at each later appearance of a SID a
@@ -203,7 +203,7 @@ void cs_breaks_fresh(uint64_t *history, uint8_t signal);
  * A break is three numbers of the list: the SID, the time of the message, and which of the two; every number behind the breaks stays. A message of the old
  * form or of another TYPE has none, and the history stays. Refuses with 1 to 4, then 8, also a message that would be passed over. list_length counts
  * numbers. Whatever words the history has are taken: any word but 0 is seen, and times and counts are compared as the words that they are. */
-cs_listed cs_breaks(const uint8_t *message, size_t length, uint64_t *history, uint64_t *list, size_t list_length);
+cs_listed cs_breaks(const uint8_t *message, size_t length, uint64_t history[CS_HISTORY_WORDS], uint64_t *list, size_t list_length);
 
 /* The range in micrometres of a pseudorange as PR has it: PR times 149896229, plus 7,500, divided by 15,000, rounded down. That is as far as light goes
  * in PR at 299792458 m/s, to the nearest. Before version 1.2 it went by the standards' printed factor and was 3.3 parts in 10^10 low. */

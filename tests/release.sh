@@ -32,7 +32,7 @@ cmp -s "$release/samples/sortie.macm" "$sample.macm" || fail "the sample recordi
 "$release/cablesound" list "$release/samples/sortie.macm" | cmp -s - "$sample.listing" || fail "list prints something else"
 "$release/cablesound" rows <"$sample.macm" | cmp -s - "$sample.rows" || fail "rows prints something else"
 "$release/cablesound" why "$root/crates/why/stdin" | cmp -s - "$root/crates/why/stdout" || fail "why prints something else"
-"$release/cablesound" breaks 0 "$root/samples/locks.macm" | cmp -s - "$root/samples/locks.breaks" || fail "breaks prints something else"
+"$release/cablesound" breaks 0 "$release/samples/locks.macm" | cmp -s - "$root/samples/locks.breaks" || fail "breaks prints something else"
 [ "$("$release/cablesound" why "$release/samples/sortie.macm" 31)" = '31 inside 30' ] || fail "why of a position prints something else"
 "$release/cablesound" help | grep -q ' bench' && fail "help offers what a release has not"
 said=$("$release/cablesound" test 2>&1) && fail "test succeeds in a release"

@@ -156,7 +156,7 @@ build() {
         (cd target/bin && cp -f $programs ../../build/) &&
         (cd help && cp -f $commands help ../build/help/) &&
         cp -f tools/plot.gnuplot tools/points.awk build/tools/ &&
-        cp -f samples/sortie.macm samples/phases.macm build/samples/ || fail "nothing can be put into build/"
+        cp -f samples/sortie.macm samples/phases.macm samples/locks.macm build/samples/ || fail "nothing can be put into build/"
     say "build/ is a release: build/README.md says what is in it"
 }
 

@@ -18,7 +18,7 @@ pub enum Refusal {
     NoRoom,
     // Converting: not of the form converted from, or, to the old form, TYPE is not 0.
     OtherForm,
-    // The stream reader's window or output has fewer than 6,136 bytes.
+    // The stream reader's window or output has fewer than 6,136 bytes, or a list of breaks no room for 255 of them.
     SmallBuffer,
     // A reader state that no reader leaves.
     BadState,
