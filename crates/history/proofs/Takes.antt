@@ -9,14 +9,14 @@ use lib.Dec.{eqb}
 use lib.ListN.{length, length-append}
 use borrow.Author.Tests.{eq-eqb, ne-eqb}
 use Rattle.octets.specs.Parts.{put}
-use Rattle.octets.proofs.Parts.{put-none, put-next, length-put}
+use Rattle.octets.proofs.Parts.{put-none, put-next}
 use Rattle.units.specs.Units.{countIn}
 use Rattle.macm.specs.declared.Observed.{Observed}
 use Rattle.macm.specs.declared.Observed.the-variants.{Refused, Read}
 use Rattle.history.specs.declared.Appearance.{Appearance}
 use Rattle.history.specs.declared.Last.{Last}
 use Rattle.history.specs.Words.{lastAt, lastIn, putLast}
-use Rattle.history.specs.Appearances.{appearanceOf}
+use Rattle.history.specs.Appearances.{appears, appearanceOf}
 use Rattle.history.specs.Breaks.{Entry, Kept, saidOf, entryOf, entryFor, entryAt, numbersOf, after, afterAll, begun}
 use Rattle.history.specs.Steps.{Takes}
 
@@ -100,7 +100,7 @@ few a which = go (eqb which 0)
 one-at-most : (ws : List ℕ) (time : ℕ) (o : Observed) → length (afterAll (begun ws) (appearanceOf time o) .entries) ≤ 1
 unfolding afterAll
 one-at-most ws time (Refused r) = omega arith
-one-at-most ws time (Read o) = few (record { sid = o .sid; time = time; lock = countIn (o .lock) }) (saidOf (lastIn ws (o .sid)) time (countIn (o .lock)))
+one-at-most ws time (Read o) = few (appears time o) (saidOf (lastIn ws (o .sid)) time (countIn (o .lock)))
 
 pub takes-few : {ws list ws′ list′ : List ℕ} {count r : ℕ} (time : ℕ) (o : Observed) → Takes ws list count (appearanceOf time o) r ws′ list′ → r ≤ count + 1
 takes-few {ws} time o t = omega (arith, t .counted, one-at-most ws time o)

@@ -1,5 +1,5 @@
 -- The appearances that a call takes are those of the message's observations, and their SIDs are bytes. Assumes nothing.
-use Prim.Native.Nat.{ℕ, zero, suc, _+_, _^_, _≤_, _<_}
+use Prim.Native.Nat.{ℕ, zero, suc, _+_, _≤_, _<_}
 use mathlib.Core.Path.{_≡_, refl, sym, ap, ap₂, _∙_}
 use mathlib.Core.Bool.{Bool, true, false, cond}
 use mathlib.Core.List.{List, [], _∷_, _++_, map}
@@ -7,28 +7,23 @@ use native.Mathlib.Omega.{arith}
 use native.Mathlib.Nat.{add-zero, zero-add, lt-of-lt-of-le, pow-le-pow-right}
 use lib.ListN.{length, length-take}
 use borrow.Table.Elements.{map-app}
-use Rattle.octets.specs.Numbers.{Bytes, number}
+use Rattle.octets.specs.Numbers.{Bytes}
 use Rattle.octets.specs.Parts.{part}
 use Rattle.octets.proofs.Numbers.{number-fits, part-bytes}
 use Rattle.macm.specs.declared.Form.{Form}
-use Rattle.macm.specs.declared.Header.{Header}
-use Rattle.macm.specs.declared.Observation.{Observation}
-use Rattle.macm.specs.declared.Head.{Head}
-use Rattle.macm.specs.declared.Head.the-variants.{Refused as NoHead, Read as Headed}
 use Rattle.macm.specs.declared.Observed.the-variants.{Read}
-use Rattle.macm.specs.declared.Verdict.{Verdict}
-use Rattle.macm.specs.declared.Verdict.the-variants.{Refused, Accepted}
+use Rattle.macm.specs.declared.Verdict.the-variants.{Accepted}
 use Rattle.macm.specs.Form.{observationAt}
 use Rattle.macm.specs.Check.{verdict}
 use Rattle.macm.specs.Observation.{observationOf}
-use Rattle.macm.specs.Read.{headerOf, headOf, observedAs, observedOf}
+use Rattle.macm.specs.Read.{headerOf, observedAs, observedOf}
 use Rattle.macm.specs.Answers.{countIn, observationIn}
 use Rattle.macm.proofs.CheckSteps.{fine}
 use Rattle.macm.proofs.ReadSteps.{head-accepted, observed-accepted, observed-there}
 use Rattle.history.specs.declared.Appearance.{Appearance}
-use Rattle.history.specs.Appearances.{appearanceOf, appearancesUpTo, isOf, appearancesIn}
+use Rattle.history.specs.Appearances.{appears, appearanceOf, appearancesUpTo, isOf, appearancesIn}
 use Rattle.promises.specs.Again.{readFrom, observationsOf}
-use Rattle.promises.specs.History.{appears, seenBy, seenIn}
+use Rattle.promises.specs.History.{seenBy, seenIn}
 
 -- ---- the observations of a message, the last apart
 read-last : (k j : ℕ) (m : List ℕ) → readFrom (suc k) j m ≡ readFrom k j m ++ (observationIn (observedOf m (j + k)) ∷ [])

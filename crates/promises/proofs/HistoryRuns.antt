@@ -2,7 +2,6 @@
 use Prim.Native.Nat.{ℕ, _*_, _≤_}
 use mathlib.Core.Path.{_≡_, refl, sym, ap, ap₂, _∙_, subst}
 use mathlib.Core.List.{List, [], _∷_, _++_, map, append-assoc, append-nil}
-use native.Mathlib.Omega.{arith}
 use lib.ListN.{length, take, drop}
 use lib.Seq.{take-at}
 use borrow.Author.Tests.{le-ltb}
@@ -14,14 +13,13 @@ use Rattle.macm.specs.Check.{verdict}
 use Rattle.macm.specs.Read.{headerOf, headOf}
 use Rattle.macm.proofs.ReadSteps.{head-refused, head-accepted}
 use Rattle.history.specs.declared.Appearance.{Appearance}
-use Rattle.history.specs.Words.{typeIn}
 use Rattle.history.specs.Appearances.{appearancesIn}
 use Rattle.history.specs.Breaks.{numbersOf, replaced, entryAt, afterAll, begun}
 use Rattle.history.specs.Calls.{listNumbers, callBy, nextCall}
 use Rattle.history.proofs.Takes.{numbers-length, after-behind}
 use Rattle.promises.specs.Again.{observationsOf}
 use Rattle.promises.specs.History.{breaksSince, listsSince, seenBy, seenIn}
-use Rattle.promises.specs.HistoryCalls.{Given, listed, givenBy, callsFrom, owedBy, owed, Every}
+use Rattle.promises.specs.HistoryCalls.{listed, givenBy, callsFrom, owedBy, owed, Every}
 use Rattle.promises.proofs.Appearing.{Small, seen-same, seen-small}
 use Rattle.promises.proofs.HistoryWords.{Keeps, keeps-one, said-same}
 

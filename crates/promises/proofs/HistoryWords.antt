@@ -1,6 +1,6 @@
 -- The words of a history hold what was seen last of every SID. Assumes nothing.
 use Prim.Native.Nat.{ℕ, suc, _+_, _*_, _<_}
-use mathlib.Core.Path.{_≡_, refl, sym, ap, ap₂, _∙_}
+use mathlib.Core.Path.{_≡_, refl, sym, ap, _∙_}
 use mathlib.Core.Bool.{Bool, true, false, cond}
 use mathlib.Core.List.{List, [], _∷_, _++_}
 use native.Mathlib.Omega.{arith}
@@ -13,7 +13,7 @@ use Rattle.history.specs.declared.Appearance.{Appearance}
 use Rattle.history.specs.declared.Last as words
 use Rattle.history.specs.Words.{historyWords, lastAt, typeIn, lastIn, putLast, freshWords}
 use Rattle.history.specs.Breaks.{saidOf, entryOf, entryFor, replaced, entryAt}
-use Rattle.promises.specs.History.{Earlier, never, last, orLast, lastOf, breakSince}
+use Rattle.promises.specs.History.{Earlier, never, last, lastOf, breakSince}
 
 -- the last pair of an appearance
 abbrev pair : ℕ → ℕ → words.Last

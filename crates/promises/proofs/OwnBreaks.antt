@@ -4,7 +4,7 @@ use mathlib.Core.Path.{_≡_, refl, sym, ap, ap₂, _∙_}
 use mathlib.Core.Bool.{Bool, true, false, cond}
 use mathlib.Core.List.{List, [], _∷_, _++_, map, flatten, append-assoc, append-nil}
 use lib.Dec.{ltb, eqb}
-use borrow.Author.Tests.{eqb-true, eq-eqb}
+use borrow.Author.Tests.{eqb-true}
 use Rattle.history.specs.declared.Appearance.{Appearance}
 use Rattle.history.specs.Breaks.{Entry, entryOf}
 use Rattle.promises.specs.History.{Earlier, never, last, orLast, lastOf, breakSince, breaksSince, listsSince, ofSid, entriesOf}

@@ -3,20 +3,16 @@ use Prim.Native.Nat.{ℕ}
 use mathlib.Core.Bool.{cond}
 use mathlib.Core.List.{List, [], _∷_, _++_, map}
 use lib.Dec.{ltb, eqb}
-use Rattle.units.specs.Units.{countIn}
 use Rattle.macm.specs.declared.Observation.{Observation}
 use Rattle.macm.specs.declared.Head.{Head}
 use Rattle.macm.specs.declared.Head.the-variants.{Refused, Read}
 use Rattle.macm.specs.Read.{headOf}
 use Rattle.history.specs.declared.Appearance.{Appearance}
-use Rattle.history.specs.Appearances.{isOf}
+use Rattle.history.specs.Appearances.{appears, isOf}
 use Rattle.history.specs.Breaks.{Entry, clockBack, newLock, entryOf}
 use Rattle.promises.specs.Again.{observationsOf}
 
 -- ---- the appearances of SIDs in a message, in order: each observation's, with the time of the message
-abbrev pub appears : ℕ → Observation → Appearance
-appears time o = record { sid = o .sid; time = time; lock = countIn (o .lock) }
-
 -- old messages and other TYPEs are passed over, and so is what is no message
 abbrev pub seenBy : ℕ → Head → List Observation → List Appearance
 seenBy type (Refused r) os = []
