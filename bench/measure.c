@@ -10,7 +10,9 @@
 static const int ROUNDS = 9;
 static const double SECONDS = 0.75;
 
-/* The seconds of two short passes by turns, in which each has hundreds. */
+/* Turns of so many passes, and so many seconds of them: the CPU time of a virtual machine may come out 8 microseconds too short where it was
+ * interrupted, and then a turn of one pass is the best of all. */
+enum { PASSES = 16 };
 static const double TURNS = 0.5;
 
 int measure_due(int rounds, double seconds, int runners) {
@@ -21,12 +23,15 @@ double measure_best(double one, double other) {
     return one < other ? one : other;
 }
 
-/* Makes the best nanoseconds a part less where this pass is faster; answers its number. */
+/* Makes the best nanoseconds a part less where this turn is faster; answers the sum of its numbers. */
 static uint64_t timed(measure_runner *runner, int parts) {
     double before = process_own_seconds();
-    uint64_t number = runner->pass(runner->on);
-    runner->best = measure_best(runner->best, (process_own_seconds() - before) * 1e9 / parts);
-    return number;
+    uint64_t sum = 0;
+    for (int i = 0; i < PASSES; i++) {
+        sum += runner->pass(runner->on);
+    }
+    runner->best = measure_best(runner->best, (process_own_seconds() - before) * 1e9 / PASSES / parts);
+    return sum;
 }
 
 int measure_turns(measure_runner *one, measure_runner *other, int parts) {

@@ -20,8 +20,8 @@ typedef struct {
     double best;
 } measure_runner;
 
-/* Runs both by turns for half a second or more, over so many parts a pass, and leaves the best nanoseconds a part; answers 1, or 0 where the two do
- * not come to the same number. */
+/* Runs both by turns of several passes, for half a second or more, over so many parts a pass, and leaves the best nanoseconds a part; answers 1, or 0
+ * where the two do not come to the same number. */
 int measure_turns(measure_runner *one, measure_runner *other, int parts);
 
 /* Says why nothing can be measured, and ends with 2. */
