@@ -5,6 +5,7 @@
  * nothing can be measured.
  */
 #include "cablesound.h"
+#include "locks.h"
 #include "measure.h"
 #include "observations.h"
 #include "process.h"
@@ -215,6 +216,9 @@ static void compare_all(const char *folder) {
     if (!records_agree()) {
         measure_stop("the library and the C differ in a record");
     }
+    if (!locks_agree()) {
+        measure_stop("the library and the C differ in the breaks of a message");
+    }
 }
 
 /* Prints the rows of a stream; answers the nanoseconds of a feed of one byte. */
@@ -277,6 +281,9 @@ int main(int argc, char **argv) {
     }
     if (!records_measure()) {
         measure_stop("the library and the C come to different numbers over the records");
+    }
+    if (!locks_measure()) {
+        measure_stop("the library and the C come to different numbers of breaks");
     }
     observations_measure(folder);
     int missed = judge_listings(listings);

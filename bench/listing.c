@@ -55,7 +55,7 @@ static void put_line(const reader_message *m) {
     if (full > BLOCK - LINE) {
         flush();
     }
-    input_header head = input_head(m);
+    message_header head = message_head(m->bytes);
     put_number(place + m->gap, ' ');
     put_number(m->length, ' ');
     put_text(head.new ? "v2 " : "v1 ", 3);

@@ -5,12 +5,10 @@
 #ifndef READER_H
 #define READER_H
 
-#include <stddef.h>
-#include <stdint.h>
+#include "message.h"
 
-/* The longest message, and a window of twice that: as much memory as the library's window and output together. */
-#define READER_LONGEST 6136
-#define READER_WINDOW (2 * READER_LONGEST)
+/* A window of twice the longest message: as much memory as the library's window and output together. */
+#define READER_WINDOW (2 * MESSAGE_LONGEST)
 
 /* The held bytes are those from start up to end. gap counts the gap bytes since the last message. */
 typedef struct {

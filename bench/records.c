@@ -1,15 +1,14 @@
 /* The records that both are measured on, and the measuring: see records.h. */
 #include "records.h"
-#include "process.h"
+#include "measure.h"
 #include "record.h"
 #include "streams.h"
 
 #include <stdio.h>
 #include <string.h>
 
-/* Enough records for nothing to be guessed, few enough for the cache. A row takes so many seconds at least, in rounds of a pass by each. */
+/* Enough records for nothing to be guessed, few enough for the cache. */
 enum { RECORDS = 1 << 14, SIZE = CS_RANGECMP_BYTES };
-static const double SECONDS = 0.5;
 
 static uint8_t bytes[RECORDS][SIZE];
 static cs_rangecmp numbers[RECORDS];
@@ -57,10 +56,8 @@ int records_agree(void) {
     return same;
 }
 
-/* One pass over all records; answers a number that rests on each. */
-typedef uint64_t pass(const calls *by);
-
-static uint64_t read_all(const calls *by) {
+static uint64_t read_all(const void *with) {
+    const calls *by = with;
     uint64_t sum = 0;
     for (size_t i = 0; i < RECORDS; i++) {
         sum += by->read(bytes[i], SIZE).range;
@@ -68,7 +65,8 @@ static uint64_t read_all(const calls *by) {
     return sum;
 }
 
-static uint64_t write_all(const calls *by) {
+static uint64_t write_all(const void *with) {
+    const calls *by = with;
     uint8_t output[SIZE] = {0};
     uint64_t sum = 0;
     for (size_t i = 0; i < RECORDS; i++) {
@@ -77,7 +75,8 @@ static uint64_t write_all(const calls *by) {
     return sum;
 }
 
-static uint64_t adr_all(const calls *by) {
+static uint64_t adr_all(const void *with) {
+    const calls *by = with;
     uint64_t sum = 0;
     for (size_t i = 0; i < RECORDS; i++) {
         sum += (uint64_t)by->adr(bytes[i], SIZE).adr;
@@ -85,22 +84,10 @@ static uint64_t adr_all(const calls *by) {
     return sum;
 }
 
-/* Makes the best nanoseconds a record less where this pass is faster; answers its number. */
-static uint64_t timed(pass *all, const calls *by, double *best) {
-    double before = process_own_seconds();
-    uint64_t sum = all(by);
-    double taken = (process_own_seconds() - before) * 1e9 / RECORDS;
-    *best = taken < *best ? taken : *best;
-    return sum;
-}
-
-static int measure(const char *name, pass *all) {
-    double best = 1e9, c_best = 1e9, begin = process_own_seconds();
-    int same = 1;
-    while (process_own_seconds() - begin < SECONDS) {
-        same &= timed(all, &library, &best) == timed(all, &c, &c_best);
-    }
-    printf("%-8s %12.1f %10.1f %8.2f\n", name, best, c_best, c_best / best);
+static int measure(const char *name, measure_pass *all) {
+    measure_runner by_library = {.pass = all, .on = &library}, by_c = {.pass = all, .on = &c};
+    int same = measure_turns(&by_library, &by_c, RECORDS);
+    printf("%-8s %12.1f %10.1f %8.2f\n", name, by_library.best, by_c.best, by_c.best / by_library.best);
     return same;
 }
 

@@ -5,7 +5,7 @@
 #include <stdio.h>
 #include <string.h>
 
-enum { BUFFER = 65536, OBSERVATION = 24, EXPONENT = 2047 };
+enum { BUFFER = 65536, EXPONENT = 2047 };
 
 static input recording;
 
@@ -51,7 +51,7 @@ static int print_phase(int valid, uint64_t phase) {
 }
 
 /* Position, time, form and TYPE. */
-static void print_head(uint64_t position, const reader_message *m, const input_header *h) {
+static void print_head(uint64_t position, const reader_message *m, const message_header *h) {
     if (h->new) {
         printf("%" PRIu64 " %" PRIu32 " v2 %u ", position, h->time, m->bytes[4]);
     } else {
@@ -62,9 +62,9 @@ static void print_head(uint64_t position, const reader_message *m, const input_h
 static void print_observation(int new, const uint8_t *o) {
     static const char *const polarities[] = {"unknown", "undefined1", "undefined2", "undefined3", "undefined4", "uncorrected", "undefined6", "half"};
     unsigned condition = (unsigned)o[1] << 8 | o[2];
-    uint64_t phase = (uint64_t)input_word(o + 4) << 32 | input_word(o + 8);
-    uint64_t range = (input_word(o + 12) * UINT64_C(149896229) + 7500) / 15000, lock = 2 * (uint64_t)input_word(o + 20);
-    uint32_t raw = input_word(o + 16), rate = raw >> 31 ? -raw : raw;
+    uint64_t phase = (uint64_t)message_word(o + 4) << 32 | message_word(o + 8);
+    uint64_t range = (message_word(o + 12) * UINT64_C(149896229) + 7500) / 15000, lock = 2 * (uint64_t)message_word(o + 20);
+    uint32_t raw = message_word(o + 16), rate = raw >> 31 ? -raw : raw;
     printf("%u %u %04X %" PRIu64 ".%06u ", o[0], o[3], condition, range / 1000000, (unsigned)(range % 1000000));
     int shown = print_phase(new && (condition & 4) != 0, phase);
     printf(" %016" PRIX64 " %s %s%" PRIu32 ".%04" PRIu32 " %" PRIu64 "\n", phase, shown ? polarities[condition >> 8 & 7] : "-", raw >> 31 ? "-" : "",
@@ -72,10 +72,10 @@ static void print_observation(int new, const uint8_t *o) {
 }
 
 static void print_rows(uint64_t position, const reader_message *m) {
-    input_header head = input_head(m);
+    message_header head = message_head(m->bytes);
     for (int i = 0; i < head.count; i++) {
         print_head(position, m, &head);
-        print_observation(head.new, head.observations + OBSERVATION * i);
+        print_observation(head.new, head.observations + MESSAGE_OBSERVATION * i);
     }
 }
 

@@ -131,16 +131,21 @@ static void make_observation(uint8_t *at, uint64_t *seed) {
     put(at, 4, between(seed, 0, 1800000));
 }
 
-/* Ten messages a second, TYPE 0, with the TFOM, VERSION and OFFSET of the sample recording. */
+/* TYPE 0, with the TFOM, VERSION and OFFSET of the sample recording; answers where the observations go. */
+static uint8_t *make_header(uint8_t *message, int new, uint64_t time) {
+    uint8_t *field = new ? put(message + 4, 3, 0x000300) : put(message + 4, 2, 0x0200);
+    return put(put(field, 4, time), 4, 0x407C1000);
+}
+
+/* Ten messages a second. */
 static void make_flight(uint8_t *bytes, size_t length, uint8_t count) {
     uint8_t message[LONGEST];
     uint64_t seed = 4, time = 245370000;
     int new = 1;
     for (size_t at = 0; at < length; new = !new) {
-        uint8_t *field = new ? put(message + 4, 3, 0x000300) : put(message + 4, 2, 0x0200);
-        field = put(put(field, 4, time), 4, 0x407C1000);
+        uint8_t *observations = make_header(message, new, time);
         for (size_t i = 0; i < count; i++) {
-            make_observation(field + 24 * i, &seed);
+            make_observation(observations + 24 * i, &seed);
         }
         time += 100;
         at = add(bytes, length, at, message, seal(message, new, count));
@@ -153,4 +158,34 @@ void stream_usual(uint8_t *bytes, size_t length) {
 
 void stream_full(uint8_t *bytes, size_t length) {
     make_flight(bytes, length, 255);
+}
+
+/* A SID's lock count goes on by a tenth of a second at each appearance, save one in 64, where its lock is new. */
+static void make_lock(uint8_t *observation, uint32_t *locks, uint64_t *seed) {
+    uint32_t *lock = &locks[observation[0]];
+    *lock = between(seed, 1, 64) == 64 ? 0 : *lock + 50;
+    put(observation + 20, 4, *lock);
+}
+
+/* Of sixteen messages one has TYPE 1, and one is old, with VERSION 0 where the others have TYPE, so that its form alone tells it. The clock goes back
+ * by two seconds once in 1,785 observations. */
+void stream_locks(uint8_t *bytes, size_t length, uint8_t count) {
+    uint8_t message[LONGEST];
+    uint32_t locks[256];
+    uint64_t seed = 5, time = 245370000;
+    for (size_t sid = 0; sid < 256; sid++) {
+        locks[sid] = (uint32_t)between(&seed, 0, 1800000);
+    }
+    for (size_t at = 0, made = 1; at < length; made++) {
+        int new = made % 16 != 0;
+        uint8_t *observations = make_header(message, new, time);
+        message[4] = made % 16 == 8;
+        for (size_t i = 0; i < count; i++) {
+            make_observation(observations + 24 * i, &seed);
+            make_lock(observations + 24 * i, locks, &seed);
+        }
+        time += 100;
+        time -= between(&seed, 1, 1785) <= count ? 2000 : 0;
+        at = add(bytes, length, at, message, seal(message, new, count));
+    }
 }

@@ -23,4 +23,8 @@ void stream_usual(uint8_t *bytes, size_t length);
 /* The same with 255 observations a message, the most that it can have. */
 void stream_full(uint8_t *bytes, size_t length);
 
+/* For the breaks: messages of so many observations with the numbers of a flight, in the new form and of TYPE 0, save one of eight, and with a few
+ * breaks of either kind. */
+void stream_locks(uint8_t *bytes, size_t length, uint8_t count);
+
 #endif

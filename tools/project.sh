@@ -199,8 +199,8 @@ bench() {
             offer "target/bench/compiled/$program$level"
         done
     done
-    compile bench -O2 bench/bench.c bench/measure.c bench/observations.c bench/process.c bench/programs.c bench/reader.c bench/record.c bench/records.c \
-        bench/streams.c build/libcablesound.a
+    compile bench -O2 bench/bench.c bench/lock.c bench/locks.c bench/measure.c bench/observations.c bench/process.c bench/programs.c bench/reader.c \
+        bench/record.c bench/records.c bench/streams.c build/libcablesound.a
     [ -z "$emulator" ] || say "an emulator runs all of it: the times, and a target that is missed, say nothing of x86-64"
     await setsid $emulator target/bench/compiled/bench target/bench
 }
