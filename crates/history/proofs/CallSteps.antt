@@ -22,31 +22,30 @@ use Rattle.history.specs.Calls.{listNumbers, Leaves, refusing, listing, 
 use Rattle.history.specs.Steps.{Takes}
 use Rattle.history.proofs.Takes.{numbers-length}
 
-module _ (m ws list : List ℕ) (head : Head) where
-  pub call-refused : (r : Refusal) → head ≡ NoHead r → Leaves (callBy head m ws list) (Refused r) ws list
+pub call-refused : (m ws list : List ℕ) (head : Head) (r : Refusal) → head ≡ NoHead r → Leaves (callBy head m ws list) (Refused r) ws list
+unfolding callBy
+call-refused m ws list head r e = rw e (record { answer = refl; words = refl; list = refl })
+
+module _ (m ws list : List ℕ) (h : Header) (n : ℕ) where
+  pub call-without-room : length list < listNumbers → Leaves (callBy (Read h n) m ws list) (Refused SmallBuffer) ws list
   unfolding callBy
-  call-refused r e = rw e (record { answer = refl; words = refl; list = refl })
+  call-without-room l = rw (lt-ltb _ _ l) (record { answer = refl; words = refl; list = refl })
 
-  module _ (h : Header) (n : ℕ) (read : head ≡ Read h n) where
-    pub call-without-room : length list < listNumbers → Leaves (callBy head m ws list) (Refused SmallBuffer) ws list
-    unfolding callBy
-    call-without-room l = rw (read, lt-ltb _ _ l) (record { answer = refl; words = refl; list = refl })
+  pub call-passes-over : listNumbers ≤ length list → isOf (typeIn ws) (h .form) ≡ false → Leaves (callBy (Read h n) m ws list) (Listed 0) ws list
+  unfolding callBy appearancesIn afterAll numbersOf
+  call-passes-over l e = rw (le-ltb _ _ l, e) (record { answer = refl; words = refl; list = refl })
 
-    pub call-passes-over : listNumbers ≤ length list → isOf (typeIn ws) (h .form) ≡ false → Leaves (callBy head m ws list) (Listed 0) ws list
-    unfolding callBy appearancesIn afterAll numbersOf
-    call-passes-over l e = rw (read, le-ltb _ _ l, e) (record { answer = refl; words = refl; list = refl })
-
-    pub call-takes : (r : ℕ) (ws′ list′ : List ℕ) → listNumbers ≤ length list → isOf (typeIn ws) (h .form) ≡ true → Takes ws list 0 (appearancesUpTo n (h .form) (h .time) n m) r ws′ list′ → Leaves (callBy head m ws list) (Listed r) ws′ list′
-    unfolding callBy appearancesIn
-    call-takes r ws′ list′ l e t =
-        let kept = afterAll (begun ws) (appearancesUpTo n (h .form) (h .time) n m) in
-        let numbers = numbersOf (kept .entries) in
-        rw (read, le-ltb _ _ l, e)
-        (record {
-          answer = ap Listed (t .counted ∙ zero-add (length (kept .entries)));
-          words = t .words;
-          list = t .listed ∙ ap (λ k. numbers ++ drop k list) (zero-add (length numbers));
-        })
+  pub call-takes : (r : ℕ) (ws′ list′ : List ℕ) → listNumbers ≤ length list → isOf (typeIn ws) (h .form) ≡ true → Takes ws list 0 (appearancesUpTo n (h .form) (h .time) n m) r ws′ list′ → Leaves (callBy (Read h n) m ws list) (Listed r) ws′ list′
+  unfolding callBy appearancesIn
+  call-takes r ws′ list′ l e t =
+      let kept = afterAll (begun ws) (appearancesUpTo n (h .form) (h .time) n m) in
+      let numbers = numbersOf (kept .entries) in
+      rw (le-ltb _ _ l, e)
+      (record {
+        answer = ap Listed (t .counted ∙ zero-add (length (kept .entries)));
+        words = t .words;
+        list = t .listed ∙ ap (λ k. numbers ++ drop k list) (zero-add (length numbers));
+      })
 
 -- ---- the list holds the entries that are said to be in it
 abbrev pub Holds : Breaks → List ℕ → Type 0

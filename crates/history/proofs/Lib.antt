@@ -1,3 +1,4 @@
+pub mod TwoFields
 pub mod Takes
 pub mod CallSteps
 pub mod Determined

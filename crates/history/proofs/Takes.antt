@@ -1,22 +1,24 @@
 -- What appearances leave, one after the other. Assumes nothing.
-use Prim.Native.Nat.{ℕ, _+_, _*_, _≤_}
+use Prim.Native.Nat.{ℕ, _+_, _*_, _≤_, _<_}
 use mathlib.Core.Path.{_≡_, refl, sym, ap, ap₂, _∙_}
 use mathlib.Core.Bool.{Bool, true, false, cond}
 use mathlib.Core.List.{List, [], _∷_, _++_, append-assoc, append-nil}
 use native.Mathlib.Omega.{arith}
 use native.Mathlib.Nat.{add-zero}
+use native.Mathlib.Numerals.{add-one}
 use lib.Dec.{eqb}
 use lib.ListN.{length, length-append}
 use borrow.Author.Tests.{eq-eqb, ne-eqb}
-use Rattle.octets.specs.Parts.{put}
+use Rattle.octets.specs.Parts.{put, part}
 use Rattle.octets.proofs.Parts.{put-none, put-next}
-use Rattle.units.specs.Units.{countIn}
-use Rattle.macm.specs.declared.Observed.{Observed}
-use Rattle.macm.specs.declared.Observed.the-variants.{Refused, Read}
+use Rattle.macm.specs.declared.Form.{Form}
+use Rattle.macm.specs.Form.{observationAt, size}
+use Rattle.macm.specs.Observation.{observationOf}
+use Rattle.macm.proofs.ReadSteps.{observed-there}
 use Rattle.history.specs.declared.Appearance.{Appearance}
 use Rattle.history.specs.declared.Last.{Last}
 use Rattle.history.specs.Words.{lastAt, lastIn, putLast}
-use Rattle.history.specs.Appearances.{appears, appearanceOf}
+use Rattle.history.specs.Appearances.{appears, appearanceOf, appearancesUpTo}
 use Rattle.history.specs.Breaks.{Entry, Kept, saidOf, entryOf, entryFor, entryAt, numbersOf, after, afterAll, begun}
 use Rattle.history.specs.Steps.{Takes}
 
@@ -89,7 +91,7 @@ module _ {ws list ws′ list′ ws″ list″ : List ℕ} {count r r′ : ℕ} {
             ∙ ap (λ ns. put (3 * count) ns list) (sym (numbers-append (first .entries) (second .entries)) ∙ sym (ap (λ k. numbersOf (k .entries)) all));
       }
 
--- what was read brings one entry at most
+-- an appearance brings one entry at most
 few : (a : Appearance) (which : ℕ) → length (entryFor a which) ≤ 1
 few a which = go (eqb which 0)
   where
@@ -97,10 +99,13 @@ few a which = go (eqb which 0)
     go true = omega arith
     go false = omega arith
 
-one-at-most : (ws : List ℕ) (time : ℕ) (o : Observed) → length (afterAll (begun ws) (appearanceOf time o) .entries) ≤ 1
+pub takes-few : {ws list ws′ list′ : List ℕ} {count r : ℕ} (a : Appearance) → Takes ws list count (a ∷ []) r ws′ list′ → r ≤ count + 1
 unfolding afterAll
-one-at-most ws time (Refused r) = omega arith
-one-at-most ws time (Read o) = few (appears time o) (saidOf (lastIn ws (o .sid)) time (countIn (o .lock)))
+takes-few {ws} a t = omega (arith, t .counted, few a (saidOf (lastIn ws (a .sid)) (a .time) (a .lock)))
 
-pub takes-few : {ws list ws′ list′ : List ℕ} {count r : ℕ} (time : ℕ) (o : Observed) → Takes ws list count (appearanceOf time o) r ws′ list′ → r ≤ count + 1
-takes-few {ws} time o t = omega (arith, t .counted, one-at-most ws time o)
+-- ---- the observations of a message, one more
+pub observed-next : (m : List ℕ) (f : Form) (time n k : ℕ) (a : Appearance) → length m ≡ size f n → k < n → a ≡ appears time (observationOf (part (observationAt f k) 24 m))
+    → appearancesUpTo k f time n m ++ (a ∷ []) ≡ appearancesUpTo (k + 1) f time n m
+unfolding appearancesUpTo
+observed-next m f time n k a long l e =
+    rw add-one (ap (λ r. appearancesUpTo k f time n m ++ r) (ap (λ x. x ∷ []) e ∙ ap (appearanceOf time) (observed-there m k f n long l _ refl)))

@@ -3,15 +3,16 @@
 use macm::Form;
 use macm::Head;
 use macm::Header;
-use macm::Observed;
 use refusal::Refusal;
 ghost use mathlib.Core.Path.{_≡_};
 ghost use mathlib.Core.List.{[], _∷_};
 ghost use Prim.Native.Nat.{_+_, _*_, _≤_};
 ghost use lib.ListN.{length};
-ghost use Rattle.octets.specs.Parts.{put};
+ghost use Rattle.octets.specs.Parts.{put, part};
+ghost use Rattle.macm.specs.Form.{size};
+ghost use Rattle.macm.specs.Observation.{observationOf};
 ghost use Rattle.history.specs.Words.{historyWords, lastFrom, freshWords};
-ghost use Rattle.history.specs.Appearances.{appearanceOf, appearancesUpTo, isOf};
+ghost use Rattle.history.specs.Appearances.{appears, appearancesUpTo, isOf};
 ghost use Rattle.history.specs.Breaks.{saidOf};
 ghost use Rattle.history.specs.Calls.{listNumbers, Leaves, callBy, nextCall, claimedCall};
 ghost use Rattle.history.specs.Steps.{Takes};
@@ -117,24 +118,18 @@ fn appear(history: &mut [u64], list: &mut [u64], count: usize, appearance: Appea
 
 // ---- one message
 
-// What was read of a message with this time: an observation, or none.
-fn appear_observed(
-    history: &mut [u64],
-    list: &mut [u64],
-    count: usize,
-    time: u32,
-    observed: Observed,
-) -> usize
-    requires { ⌜ (length (now history) ≡ historyWords) × (3 * count + 3 ≤ length (now list)) ⌝ }
-    ensures { λ r. ⌜ Takes (now (history .entry)) (now (list .entry)) count (appearanceOf time observed) r (now (history .exit)) (now (list .exit)) ⌝ }
+// The appearance in the observation whose 24 bytes begin at a place: no more of it is read.
+fn appearance_at(message: &[u8], at: usize, time: u32) -> Appearance
+    requires { ⌜ at + 24 ≤ length (now message) ⌝ }
+    ensures { λ r. ⌜ r ≡ appears time (observationOf (part at 24 (now (message .entry)))) ⌝ }
 {
-    match observed {
-        Observed::Refused(_) => count,
-        Observed::Read(observation) => {
-            let sid = observation.sid;
-            let lock = observation.lock.count();
-            appear(history, list, count, Appearance { sid, time, lock })
-        }
+    let first = at + 20;
+    let end = at + 24;
+    let lock = octets::number_of(&message[first..end]) as u32;
+    Appearance {
+        sid: message[at],
+        time,
+        lock,
     }
 }
 
@@ -146,15 +141,16 @@ fn appear_all(
     count: u8,
     message: &[u8],
 ) -> usize
-    requires { ⌜ (length (now history) ≡ historyWords) × (listNumbers ≤ length (now list)) ⌝ }
+    requires { ⌜ (length (now history) ≡ historyWords) × (listNumbers ≤ length (now list)) × (length (now message) ≡ size (header .form) count) ⌝ }
     ensures { λ r. ⌜ Takes (now (history .entry)) (now (list .entry)) 0 (appearancesUpTo count (header .form) (header .time) count (now (message .entry))) r (now (history .exit)) (now (list .exit)) ⌝ }
 {
     let form = header.form;
     let time = header.time;
     let mut listed = 0;
     for index in 0..count as usize {
-        let observed = macm::observation_as(form, count, message, index);
-        listed = appear_observed(history, list, listed, time, observed);
+        let at = macm::count_at(form) + 9 + 24 * index;
+        let appearance = appearance_at(message, at, time);
+        listed = appear(history, list, listed, appearance);
     }
     listed
 }
@@ -172,35 +168,43 @@ fn is_of(signal: u64, form: Form) -> bool
     }
 }
 
-fn list_breaks(history: &mut [u64], list: &mut [u64], head: Head, message: &[u8]) -> Breaks
-    requires { ⌜ length (now history) ≡ historyWords ⌝ }
-    ensures { λ r. ⌜ Leaves (callBy head (now (message .entry)) (now (history .entry)) (now (list .entry))) r (now (history .exit)) (now (list .exit)) ⌝ }
+// Of a message whose header was read: the list is looked at before TYPE.
+fn list_breaks(
+    history: &mut [u64],
+    list: &mut [u64],
+    header: Header,
+    count: u8,
+    message: &[u8],
+) -> Breaks
+    requires { ⌜ (length (now history) ≡ historyWords) × (length (now message) ≡ size (header .form) count) ⌝ }
+    ensures { λ r. ⌜ Leaves (callBy (Head.Read header count) (now (message .entry)) (now (history .entry)) (now (list .entry))) r (now (history .exit)) (now (list .exit)) ⌝ }
 {
-    match head {
-        Head::Refused(refusal) => Breaks::Refused(refusal),
-        Head::Read(header, count) => {
-            if list.len() < NUMBERS {
-                return Breaks::Refused(Refusal::SmallBuffer);
-            }
-            let form = header.form;
-            if is_of(history[0], form) {
-                return Breaks::Listed(appear_all(history, list, header, count, message));
-            }
-            Breaks::Listed(0)
-        }
+    if list.len() < NUMBERS {
+        return Breaks::Refused(Refusal::SmallBuffer);
     }
+    let form = header.form;
+    if is_of(history[0], form) {
+        return Breaks::Listed(appear_all(history, list, header, count, message));
+    }
+    Breaks::Listed(0)
 }
 
 // The breaks of exactly a message's bytes (1 to 4, then 8).
 pub fn next_breaks(message: &[u8], history: &mut [u64; WORDS], list: &mut [u64]) -> Breaks
     ensures { λ r. ⌜ Leaves (nextCall (now (message .entry)) (now (history .entry)) (now (list .entry))) r (now (history .exit)) (now (list .exit)) ⌝ }
 {
-    list_breaks(history, list, macm::read_header(message), message)
+    match macm::read_header(message) {
+        Head::Refused(refusal) => Breaks::Refused(refusal),
+        Head::Read(header, count) => list_breaks(history, list, header, count, message),
+    }
 }
 
 // The same of bytes that the division gave as a message (1 to 3, then 8): their checksum is not run again.
 pub fn claimed_breaks(message: &[u8], history: &mut [u64; WORDS], list: &mut [u64]) -> Breaks
     ensures { λ r. ⌜ Leaves (claimedCall (now (message .entry)) (now (history .entry)) (now (list .entry))) r (now (history .exit)) (now (list .exit)) ⌝ }
 {
-    list_breaks(history, list, macm::claimed_header(message), message)
+    match macm::claimed_header(message) {
+        Head::Refused(refusal) => Breaks::Refused(refusal),
+        Head::Read(header, count) => list_breaks(history, list, header, count, message),
+    }
 }

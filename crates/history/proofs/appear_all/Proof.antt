@@ -1,12 +1,13 @@
 -- `history::appear_all` meets its contract: before each turn the observations up to its index are taken. Assumes nothing.
-use Prim.Native.Nat.{_-_, _≤_}
-use mathlib.Core.Path.{_≡_, refl, sym, _∙_}
+use Prim.Native.Nat.{_+_, _*_, _-_, _≤_}
+use mathlib.Core.Path.{_≡_, refl, ap, _∙_}
 use native.Mathlib.Omega.{arith}
-use native.Mathlib.Numerals.{add-one}
 use lib.ListN.{length}
-use Rattle.history.specs.Appearances.{appearancesUpTo}
+use Rattle.octets.specs.Parts.{part}
+use Rattle.macm.specs.Observation.{observationOf}
+use Rattle.history.specs.Appearances.{appears, appearancesUpTo}
 use Rattle.history.specs.Steps.{Takes}
-use Rattle.history.proofs.Takes.{takes-none, takes-then, takes-few}
+use Rattle.history.proofs.Takes.{takes-none, takes-then, takes-few, observed-next}
 use borrow.Author.Needs.{needs}
 use Rattle.history.proofs.appear_all.Statement.{statement}
 use Rattle.history.proofs.appear_all.Tie as tie
@@ -22,11 +23,23 @@ loop-holds : tie.Need-loop-holds Inv-loop μ-loop
 unfolding appearancesUpTo
 loop-holds c = (omega arith, omega arith, refl, refl, takes-none _ _ _)
 
-observation-as-requires : tie.Need-observation-as-requires Inv-loop μ-loop
-observation-as-requires c κs = search needs
+count-at-requires : tie.Need-count-at-requires Inv-loop μ-loop
+count-at-requires c κs = search needs
 
-appear-observed-requires : tie.Need-appear-observed-requires Inv-loop μ-loop
-appear-observed-requires c κs = search needs
+add-at : tie.Need-add-at Inv-loop μ-loop
+add-at c = search needs
+
+mul-at : tie.Need-mul-at Inv-loop μ-loop
+mul-at c = search needs
+
+add-at-2 : tie.Need-add-at-2 Inv-loop μ-loop
+add-at-2 c = search needs
+
+appearance-at-requires : tie.Need-appearance-at-requires Inv-loop μ-loop
+appearance-at-requires c κs = search needs
+
+appear-requires : tie.Need-appear-requires Inv-loop μ-loop
+appear-requires c κs = search needs
 
 add-index : tie.Need-add-index Inv-loop μ-loop
 add-index c = search needs
@@ -35,17 +48,18 @@ loop-less : tie.Need-loop-less Inv-loop μ-loop
 loop-less c = search needs
 
 loop-again : tie.Need-loop-again Inv-loop μ-loop
-unfolding appearancesUpTo
 loop-again c =
-    let l = c .before .before .before .before .before .before .before .before .before .loop in
-    let taken = c .before .before .before .before .appear-observed in
-    let observed = c .before .before .before .before .before .before .before .observation-as in
-    let few = takes-few (c .before .before .before .before .before .before .before .before .before .before .before .before .before .args .header .time) (observed .result) (taken .ensures) in (
+    let a = c .before .before .before .before .before .before .before .before .before .before .before .before .before .before .args in
+    let l = c .before .before .before .before .before .before .before .before .before .before .loop in
+    let taken = c .before .before .before .before .appear in
+    let here = c .before .before .before .before .before .before .before .appearance-at .ensures ∙ ap (λ k. appears (a .header .time) (observationOf (part (k + 9 + 24 * l .index) 24 (a .message .now)))) (c .before .before .before .before .before .before .before .before .count-at .ensures .0) in
+    let next = observed-next (a .message .now) (a .header .form) (a .header .time) (a .count) (l .index) _ (omega arith) (omega arith) here in
+    let few = takes-few _ (taken .ensures) in (
       omega arith,
       omega (arith, few, l .inv .1),
       taken .kept .0 ∙ l .inv .2,
       taken .kept .1 .0 ∙ l .inv .3,
-      rw (add-one, sym (observed .ensures)) (takes-then (l .inv .4) (taken .ensures) (omega arith)),
+      rw next at (takes-then (l .inv .4) (taken .ensures) (omega arith)),
     )
 
 same-length : tie.Need-same-length Inv-loop μ-loop
@@ -67,8 +81,12 @@ appear-all-spec =
     Inv-loop
     μ-loop
     loop-holds
-    observation-as-requires
-    appear-observed-requires
+    count-at-requires
+    add-at
+    mul-at
+    add-at-2
+    appearance-at-requires
+    appear-requires
     add-index
     loop-less
     loop-again

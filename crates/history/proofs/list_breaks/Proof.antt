@@ -1,20 +1,14 @@
 -- `history::list_breaks` meets its contract. Assumes nothing.
 use mathlib.Core.Path.{sym, _∙_}
-use Rattle.history.proofs.CallSteps.{call-refused, call-without-room, call-passes-over, call-takes}
+use Rattle.history.proofs.CallSteps.{call-without-room, call-passes-over, call-takes}
 use borrow.Author.Needs.{needs}
 use Rattle.history.proofs.list_breaks.Statement.{statement}
 use Rattle.history.proofs.list_breaks.Tie as tie
 
-enum-known-head : tie.Need-enum-known-head
-enum-known-head c = search needs
-
-enum-known-head-2 : tie.Need-enum-known-head-2
-enum-known-head-2 c = search needs
-
 returns : tie.Need-returns
 returns c =
-    let a = c .before .before .before .before .before .before .before .args in
-    call-without-room (a .message .now) (a .history .now) (a .list .now) (a .head) _ _ (c .before .before .head2 .given .1) (c .if1 .taken)
+    let a = c .before .before .before .before .args in
+    call-without-room (a .message .now) (a .history .now) (a .list .now) (a .header) (a .count) (c .if1 .taken)
 
 slice-read-is-of : tie.Need-slice-read-is-of
 slice-read-is-of c = search needs
@@ -33,25 +27,18 @@ same-length-2 c = search needs
 
 returns-2 : tie.Need-returns-2
 returns-2 c =
-    let a = c .before .before .before .before .before .before .before .before .before .before .before .before .before .before .before .before .before .args in
-    call-takes (a .message .now) (a .history .now) (a .list .now) (a .head) _ _ (c .before .before .before .before .before .before .before .before .before .before .before .before .head2 .given .1) _ _ _ (c .before .before .before .before .before .before .before .before .before .before .if1 .left) (sym (c .before .before .before .before .before .before .before .before .is-of .ensures) ∙ c .before .before .before .before .before .before .before .if2 .taken) (c .before .before .before .before .appear-all .ensures)
+    let a = c .before .before .before .before .before .before .before .before .before .before .before .before .before .before .args in
+    call-takes (a .message .now) (a .history .now) (a .list .now) (a .header) (a .count) _ _ _ (c .before .before .before .before .before .before .before .before .before .before .if1 .left) (sym (c .before .before .before .before .before .before .before .before .is-of .ensures) ∙ c .before .before .before .before .before .before .before .if2 .taken) (c .before .before .before .before .appear-all .ensures)
 
 returns-3 : tie.Need-returns-3
 returns-3 c =
-    let a = c .before .before .before .before .before .before .args in
-    call-refused (a .message .now) (a .history .now) (a .list .now) (a .head) _ (c .before .head .given .1)
-
-returns-4 : tie.Need-returns-4
-returns-4 c =
-    let a = c .before .before .before .before .before .before .before .before .before .before .args in
-    call-passes-over (a .message .now) (a .history .now) (a .list .now) (a .head) _ _ (c .before .before .before .before .before .head2 .given .1) (c .before .before .before .if1 .left) (sym (c .before .is-of .ensures) ∙ c .if2 .left)
+    let a = c .before .before .before .before .before .before .before .args in
+    call-passes-over (a .message .now) (a .history .now) (a .list .now) (a .header) (a .count) (c .before .before .before .if1 .left) (sym (c .before .is-of .ensures) ∙ c .if2 .left)
 
 pub list-breaks-spec : {M : Type 1} → statement M
 list-breaks-spec =
     tie.close
     (tie.spec
-    enum-known-head
-    enum-known-head-2
     returns
     slice-read-is-of
     is-of-requires
@@ -59,5 +46,4 @@ list-breaks-spec =
     same-length
     same-length-2
     returns-2
-    returns-3
-    returns-4)
+    returns-3)
