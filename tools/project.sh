@@ -170,7 +170,7 @@ fuzz() {
     cd tests && await setsid $cargo run --offline --locked --quiet --bin fuzz -- "$@"
 }
 
-# NAME WORD...: a program of bench/, of these files and with these options.
+# NAME WORD...: a program of bench/, or a part of one, of these files and with these options.
 compile() {
     name=$1
     shift
@@ -199,8 +199,9 @@ bench() {
             offer "target/bench/compiled/$program$level"
         done
     done
-    compile bench -O2 bench/bench.c bench/lock.c bench/locks.c bench/measure.c bench/observations.c bench/process.c bench/programs.c bench/reader.c \
-        bench/record.c bench/records.c bench/streams.c build/libcablesound.a
+    compile lock.o -O3 -c bench/lock.c
+    compile bench -O2 bench/bench.c target/bench/compiled/lock.o bench/locks.c bench/measure.c bench/observations.c bench/process.c bench/programs.c \
+        bench/reader.c bench/record.c bench/records.c bench/streams.c build/libcablesound.a
     [ -z "$emulator" ] || say "an emulator runs all of it: the times, and a target that is missed, say nothing of x86-64"
     await setsid $emulator target/bench/compiled/bench target/bench
 }
