@@ -2,28 +2,38 @@
 -- message times alone. Assumes nothing.
 use Prim.Native.Nat.{ℕ, _+_, _-_, _≤_}
 use mathlib.Core.Path.{_≡_, refl, sym, ap, ap₂, _∙_}
+use mathlib.Core.Bool.{false}
 use mathlib.Core.Logic.{inl, inr}
 use mathlib.Core.List.{List, [], _∷_, map, flatten}
 use native.Mathlib.Omega.{arith}
 use lib.ListN.{length}
+use borrow.Author.Tests.{eq-eqb, ne-eqb}
 use Rattle.octets.specs.Numbers.{Bytes}
 use Rattle.octets.proofs.Numbers.{part-bytes}
 use Rattle.refusal.proofs.Numbered.{positive}
 use Rattle.macm.specs.declared.Form.{Form}
+use Rattle.macm.specs.declared.Form.the-variants.{New, Old}
+use Rattle.macm.specs.declared.Header.{Header}
+use Rattle.macm.specs.declared.Head.the-variants.{Read}
 use Rattle.macm.specs.declared.Verdict.{Verdict}
 use Rattle.macm.specs.declared.Verdict.the-variants.{Refused, Accepted}
 use Rattle.macm.specs.Check.{verdict}
+use Rattle.macm.specs.Read.{headOf}
 use Rattle.macm.specs.Answers.{checkNumber}
 use Rattle.macm.proofs.ReadSteps.{head-accepted, claimed-head}
-use Rattle.history.specs.Words.{freshWords}
+use Rattle.history.specs.declared.Breaks.the-variants.{Listed}
+use Rattle.history.specs.Words.{typeIn, freshWords}
+use Rattle.history.specs.Appearances.{appears, isOf}
 use Rattle.history.specs.Breaks.{Entry, numbersOf}
-use Rattle.history.specs.Calls.{listNumbers, callBy, nextCall, claimedCall}
+use Rattle.history.specs.Calls.{listNumbers, Leaves, callBy, nextCall, claimedCall}
+use Rattle.history.proofs.CallSteps.{call-passes-over}
 use Rattle.lines.specs.Breaks.{breaksText}
+use Rattle.promises.specs.Again.{observationsOf}
 use Rattle.promises.specs.Run.{Run, refused, unfinished, ended, gave}
 use Rattle.promises.specs.Given as given
 use Rattle.promises.specs.Reason.{messages}
-use Rattle.promises.specs.History.{seenIn, listsSince, breaksSince, historyOf, ofSid, entriesOf}
-use Rattle.promises.specs.HistoryCalls.{Given, listed, calls, owedBy, owed, Every, Message, givenIn}
+use Rattle.promises.specs.History.{PassedOver, seenIn, listsSince, breaksSince, historyOf, ofSid, entriesOf}
+use Rattle.promises.specs.HistoryCalls.{Told, listed, calls, owedBy, owed, Every, Message, givenIn}
 use Rattle.promises.proofs.GivenIff.{valid-if-given}
 use Rattle.promises.proofs.HistoryWords.{keeps-fresh}
 use Rattle.promises.proofs.HistoryRuns.{calls-list}
@@ -45,7 +55,7 @@ every-bytes : (ms : List (List ℕ)) → Every Message ms → Every Bytes ms
 every-bytes [] h = tt
 every-bytes (m ∷ ms) h = (h .0 .bytes, every-bytes ms (h .1))
 
-abbrev asListed : List Entry → Given
+abbrev asListed : List Entry → Told
 asListed entries = listed (numbersOf entries)
 
 owed-listed : (type : ℕ) (ms : List (List ℕ)) (before : _) → Every Message ms → owed ms (listsSince before (map (seenIn type) ms)) ≡ map asListed (listsSince before (map (seenIn type) ms))
@@ -85,6 +95,21 @@ pub breaks-printed : (position : ℕ) (m recording ws list : List ℕ) → given
 breaks-printed position m recording ws list g =
     let a = accepted-so m (valid-if-given recording position m g .0 .accepted) in
     ap (λ head. breaksText position (callBy head m ws list)) (claimed-head m (a .0) (a .1) (a .2))
+
+-- ---- old messages and other TYPEs are passed over: no entries, and the history and the list as they were; of the TYPE's own every observation counts
+not-of : (type : ℕ) (f : Form) → PassedOver type f → isOf type f ≡ false
+not-of type (New signal tfom) p = ne-eqb signal type p
+not-of type (Old version) p = refl
+
+module _ (m : List ℕ) (h : Header) (n : ℕ) (read : headOf m ≡ Read h n) where
+  pub passed-over : (ws list : List ℕ) → PassedOver (typeIn ws) (h .form) → listNumbers ≤ length list → Leaves (nextCall m ws list) (Listed 0) ws list
+  passed-over ws list p room = rw read (call-passes-over m ws list h n room (not-of (typeIn ws) (h .form) p))
+
+  pub none-seen : (type : ℕ) → PassedOver type (h .form) → seenIn type m ≡ []
+  none-seen type p = rw (read, not-of type (h .form) p)
+
+  pub all-seen : (type tfom : ℕ) → h .form ≡ New type tfom → seenIn type m ≡ map (appears (h .time)) (observationsOf m)
+  all-seen type tfom e = rw (read, e, eq-eqb type type refl)
 
 -- ---- two sequences of messages that agree in a SID's observations and their message times have the same entries for it
 module _ (sid type type′ : ℕ) (ms ms′ : List (List ℕ)) where

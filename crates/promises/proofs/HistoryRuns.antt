@@ -19,7 +19,7 @@ use Rattle.history.specs.Calls.{listNumbers, callBy, nextCall}
 use Rattle.history.proofs.Takes.{numbers-length, after-behind}
 use Rattle.promises.specs.Again.{observationsOf}
 use Rattle.promises.specs.History.{breaksSince, listsSince, seenBy, seenIn}
-use Rattle.promises.specs.HistoryCalls.{listed, givenBy, callsFrom, owedBy, owed, Every}
+use Rattle.promises.specs.HistoryCalls.{listed, toldBy, callsFrom, owedBy, owed, Every}
 use Rattle.promises.proofs.Appearing.{Small, seen-same, seen-small}
 use Rattle.promises.proofs.HistoryWords.{Keeps, keeps-one, said-same}
 
@@ -41,7 +41,7 @@ module _ (type : ℕ) where
 
   -- ---- one call
   record Listed (before : List Appearance) (ws list m : List ℕ) : Type 0 where
-    given : givenBy (nextCall m ws list .answer) (nextCall m ws list .list) ≡ owedBy (headOf m) (breaksSince before (seenIn type m))
+    given : toldBy (nextCall m ws list .answer) (nextCall m ws list .list) ≡ owedBy (headOf m) (breaksSince before (seenIn type m))
     kept : Keeps type (before ++ seenIn type m) (nextCall m ws list .words)
 
   call-lists : (before : List Appearance) (ws list m : List ℕ) → Keeps type before ws → listNumbers ≤ length list → Bytes m → Listed before ws list m

@@ -1,8 +1,11 @@
 -- E8: the breaks of lock, over all messages so far, from the first: a list of messages to a list of lists. Definitions only.
 use Prim.Native.Nat.{ℕ}
+use mathlib.Core.Path.{_≡_}
 use mathlib.Core.Bool.{cond}
 use mathlib.Core.List.{List, [], _∷_, _++_, map}
 use lib.Dec.{ltb, eqb}
+use Rattle.macm.specs.declared.Form.{Form}
+use Rattle.macm.specs.declared.Form.the-variants.{New, Old}
 use Rattle.macm.specs.declared.Observation.{Observation}
 use Rattle.macm.specs.declared.Head.{Head}
 use Rattle.macm.specs.declared.Head.the-variants.{Refused, Read}
@@ -20,6 +23,11 @@ seenBy type (Read h n) os = cond (isOf type (h .form)) (map (appears (h .time)) 
 
 abbrev pub seenIn : ℕ → List ℕ → List Appearance
 seenIn type m = seenBy type (headOf m) (observationsOf m)
+
+-- a form that is passed over for this TYPE: the old one, and the new one with another TYPE
+abbrev pub PassedOver : ℕ → Form → Type 0
+PassedOver type (New signal tfom) = (signal ≡ type → ⊥)
+PassedOver type (Old version) = Unit
 
 -- ---- the breaks
 -- the last appearance of a SID among some, if there is one

@@ -19,29 +19,29 @@ use Rattle.promises.specs.Run.{Run}
 use Rattle.promises.specs.Run as run
 
 -- what a call gives: a refusal, or the numbers that it says are listed
-pub data Given : Type 0 where
-  refused : Refusal → Given
-  listed : List ℕ → Given
+pub data Told : Type 0 where
+  refused : Refusal → Told
+  listed : List ℕ → Told
 
-abbrev pub givenBy : Breaks → List ℕ → Given
-givenBy (Refused r) list = refused r
-givenBy (Listed n) list = listed (take (3 * n) list)
+abbrev pub toldBy : Breaks → List ℕ → Told
+toldBy (Refused r) list = refused r
+toldBy (Listed n) list = listed (take (3 * n) list)
 
 -- the history goes from call to call as each leaves it; each is lent a list of its own, in which anything may stand
-unfoldable pub callsFrom : List ℕ → (ℕ → List ℕ) → List (List ℕ) → List Given
+unfoldable pub callsFrom : List ℕ → (ℕ → List ℕ) → List (List ℕ) → List Told
 callsFrom ws lists [] = []
-callsFrom ws lists (m ∷ ms) = let c = nextCall m ws (lists (length ms)) in givenBy (c .answer) (c .list) ∷ callsFrom (c .words) lists ms
+callsFrom ws lists (m ∷ ms) = let c = nextCall m ws (lists (length ms)) in toldBy (c .answer) (c .list) ∷ callsFrom (c .words) lists ms
 
 -- from a fresh history
-abbrev pub calls : ℕ → (ℕ → List ℕ) → List (List ℕ) → List Given
+abbrev pub calls : ℕ → (ℕ → List ℕ) → List (List ℕ) → List Told
 calls type lists ms = callsFrom (freshWords type) lists ms
 
 -- what the messages' entries ask of the calls; what is no message is refused as reading its header refuses it
-abbrev pub owedBy : Head → List Entry → Given
+abbrev pub owedBy : Head → List Entry → Told
 owedBy (NoHead r) entries = refused r
 owedBy (Read h n) entries = listed (numbersOf entries)
 
-unfoldable pub owed : List (List ℕ) → List (List Entry) → List Given
+unfoldable pub owed : List (List ℕ) → List (List Entry) → List Told
 owed [] lists = []
 owed (m ∷ ms) [] = []
 owed (m ∷ ms) (entries ∷ later) = owedBy (headOf m) entries ∷ owed ms later
