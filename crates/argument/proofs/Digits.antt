@@ -81,3 +81,7 @@ module _ (w : List ℕ) where
         let every : all_digits w ≡ true = h.digits ∙ ap all_digits none in
         let comes : value_from 0 w ≡ value = h.comes ∙ ap (value_from value) none in
         rw (every, comes, le-leb value 255 m)
+
+  -- too large with the next digit
+  pub read_next_large : (value index : ℕ) → Read w value index → index < length w → 48 ≤ get_or w index 0 → get_or w index 0 ≤ 57 → 255 < value * 10 + (get_or w index 0 - 48) → Other ≡ number_in w
+  read_next_large value index h l least most large = read_large _ _ (read_next value index h l least most) large

@@ -1,4 +1,6 @@
 // What programs are told on their command line.
+#![tactic(auto)]
+
 ghost use Rattle.std.specs.Prelude.{◌≡◌};
 ghost use Rattle.argument.specs.Small.{small_number};
 
@@ -10,6 +12,7 @@ pub enum Small {
 }
 
 // Zeros in front are digits like others, so a word may have any length.
+#[tactic(auto, using(crate::proofs::Digits::no_digits, crate::proofs::Digits::some_digits, crate::proofs::Digits::read_none, crate::proofs::Digits::read_below, crate::proofs::Digits::read_above, crate::proofs::Digits::read_next_large, crate::proofs::Digits::read_next, crate::proofs::Digits::read_all))]
 pub fn small_number(word: &[u8]) -> Small
     ensures { result ≡ small_number word.now }
 {

@@ -1,5 +1,7 @@
 // Fields of bits in bytes, least significant byte and bit first: any place, any width up to 64, signed ones in two's complement.
 // Every function here takes all inputs; a width above 64 counts as 64. What lies outside the bytes reads 0, and what is written there is dropped.
+#![tactic(auto)]
+
 ghost use Rattle.std.specs.Prelude.{◌≡◌, ◌+◌, ◌<◌, ◌≤◌, ◌^◌, min, ltb};
 ghost use Rattle.octets.specs.Signed.{half, signed_of, raw_of};
 ghost use Rattle.bits.specs.Fields.{cut, paste, field_of, with_field};

@@ -1,43 +1,44 @@
 -- Each public contract of `octets` determines its answer and every lent byte. Assumes nothing.
 use Rattle.owed.specs.Determined.{Determined}
 use Rattle.owed.proofs.Same.{both}
+use Rattle.octets.specs.contracts as contracts
 use Rattle.octets.proofs as octets
 
-pub checksum_determined : Determined octets.checksum.ended octets.checksum.Reads.Learnt
+pub checksum_determined : Determined contracts.checksum.ended octets.checksum.Reads.Learnt
 checksum_determined κs a z z' w w' p q = search both
 
-pub common_to_determined : Determined octets.common_to.ended octets.common_to.Reads.Learnt
+pub common_to_determined : Determined contracts.common_to.ended octets.common_to.Reads.Learnt
 common_to_determined κs a z z' w w' p q = search both
 
-pub fits_determined : Determined octets.fits.ended octets.fits.Reads.Learnt
+pub fits_determined : Determined contracts.fits.ended octets.fits.Reads.Learnt
 fits_determined κs a z z' w w' p q = search both
 
-pub starts_determined : Determined octets.starts.ended octets.starts.Reads.Learnt
+pub starts_determined : Determined contracts.starts.ended octets.starts.Reads.Learnt
 starts_determined κs a z z' w w' p q = search both
 
-pub number_of_determined : Determined octets.number_of.ended octets.number_of.Reads.Learnt
+pub number_of_determined : Determined contracts.number_of.ended octets.number_of.Reads.Learnt
 number_of_determined κs a z z' w w' p q = search both
 
-pub put_number_determined : Determined octets.put_number.ended octets.put_number.Reads.Learnt
+pub put_number_determined : Determined contracts.put_number.ended octets.put_number.Reads.Learnt
 put_number_determined κs a z z' w w' p q = search both
 
-pub signed_in_determined : Determined octets.signed_in.ended octets.signed_in.Reads.Learnt
+pub signed_in_determined : Determined contracts.signed_in.ended octets.signed_in.Reads.Learnt
 signed_in_determined κs a z z' w w' p q = search both
 
-pub raw_in_determined : Determined octets.raw_in.ended octets.raw_in.Reads.Learnt
+pub raw_in_determined : Determined contracts.raw_in.ended octets.raw_in.Reads.Learnt
 raw_in_determined κs a z z' w w' p q = search both
 
-pub holds_signed_determined : Determined octets.holds_signed.ended octets.holds_signed.Reads.Learnt
+pub holds_signed_determined : Determined contracts.holds_signed.ended octets.holds_signed.Reads.Learnt
 holds_signed_determined κs a z z' w w' p q = search both
 
-pub signed_of_determined : Determined octets.signed_of.ended octets.signed_of.Reads.Learnt
+pub signed_of_determined : Determined contracts.signed_of.ended octets.signed_of.Reads.Learnt
 signed_of_determined κs a z z' w w' p q = search both
 
-pub raw_of_determined : Determined octets.raw_of.ended octets.raw_of.Reads.Learnt
+pub raw_of_determined : Determined contracts.raw_of.ended octets.raw_of.Reads.Learnt
 raw_of_determined κs a z z' w w' p q = search both
 
-pub clear_determined : Determined octets.clear.ended octets.clear.Reads.Learnt
+pub clear_determined : Determined contracts.clear.ended octets.clear.Reads.Learnt
 clear_determined κs a z z' w w' p q = search both
 
-pub copy_determined : Determined octets.copy.ended octets.copy.Reads.Learnt
+pub copy_determined : Determined contracts.copy.ended octets.copy.Reads.Learnt
 copy_determined κs a z z' w w' p q = search both

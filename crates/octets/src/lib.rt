@@ -1,5 +1,7 @@
 // Bytes: the exclusive-or checksum, numbers most significant byte first, two's complement, copies.
 // Every function here takes all inputs; what each answers is a definition of specs/.
+#![tactic(auto)]
+
 ghost use Rattle.std.specs.Prelude.{◌≡◌, ◌⊎◌, ◌+◌, ◌*◌, ◌<◌, ◌≤◌, ◌%◌, ◌^◌, min, ltb, negsuc, length, take, replicate};
 ghost use Rattle.std.specs.Int.Signed.{mag};
 ghost use Rattle.octets.specs.Begins.{common, fit, begins};
@@ -10,7 +12,7 @@ ghost use Rattle.octets.specs.Signed.{half, signed_of, raw_of};
 ghost use Rattle.octets.specs.Steps.{SummedTo};
 
 // How a slice begins: with all of a string, with a part of it and nothing more yet, or with a byte that contradicts it.
-#[derive(Drop)]
+#[derive(Clone, Copy)]
 pub enum Fit {
     Whole,
     Part,
@@ -18,7 +20,7 @@ pub enum Fit {
 }
 
 // A checksum, and the number of bytes that went through it.
-#[derive(Drop)]
+#[derive(Clone, Copy)]
 pub struct Summed {
     pub value: u8,
     pub count: usize,

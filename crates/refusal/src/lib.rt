@@ -1,9 +1,11 @@
 // What is refused, by the numbers of documents 01 and 02, and what a call that writes answers. Every entry of the project answers with a refusal or with
 // what it was asked for.
+#![tactic(auto)]
+
 ghost use Rattle.std.specs.Prelude.{◌≡◌};
 ghost use Rattle.refusal.specs.Numbers.{number_of};
 
-#[derive(Drop)]
+#[derive(Clone, Copy)]
 pub enum Refusal {
     // Fewer than 15 bytes.
     TooShort,
@@ -38,7 +40,7 @@ pub enum Refusal {
 }
 
 // What writing answers: a refusal, or how many bytes were written.
-#[derive(Drop)]
+#[derive(Clone, Copy)]
 pub enum Written {
     Refused(Refusal),
     Length(usize),

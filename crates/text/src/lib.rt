@@ -1,5 +1,7 @@
 // Numbers as text, put into a lent buffer at a place. Each function answers the place behind what it put. A text that has no room is cut off at the
 // end of the buffer, and past the end nothing is put: whoever joins texts tests for room once, or not at all.
+#![tactic(auto)]
+
 ghost use Rattle.std.specs.Prelude.{◌≡◌, ◌∷◌, [], ◌+◌, ◌<◌, ◌≤◌, length, take};
 ghost use Rattle.octets.specs.Numbers.{bytes_of};
 ghost use Rattle.text.specs.Columns.{number_text, count_text};
@@ -164,12 +166,15 @@ fn set_pair(out: &mut [u8], at: usize, n: u32) -> usize
     at + 2
 }
 
+// The first number of two digits.
+const TWO_DIGITS: u32 = 10;
+
 // A number with as many digits as it needs: one or two.
 fn spell_pair(out: &mut [u8], at: usize, n: u32) -> usize
     requires { (at + 2 ≤ length out.old) × (n < 100) }
     ensures { (result ≤ at + 2) × Puts out.old at (decimal n) result out.new }
 {
-    if n < 10 {
+    if n < TWO_DIGITS {
         out[at] = 48 + n as u8;
         return at + 1;
     }

@@ -1,13 +1,15 @@
 // Two kinds of time that must not be mixed: lock counts, 500 a second, and milliseconds. One conversion leads from the first to the second.
+#![tactic(auto)]
+
 ghost use Rattle.std.specs.Prelude.{◌≡◌};
 ghost use Rattle.units.specs.Units.{lock_of, millis_of, count_in, millis_in, lock_millis, sum_of};
 
 // LOCKTIME as a message carries it. The field is private, so that a count is never taken for a time by accident.
-#[derive(Drop)]
+#[derive(Clone, Copy)]
 pub struct LockCount(u32);
 
 // Milliseconds, of the GNSS week or since lock: a lock count of 32 bits takes 33.
-#[derive(Drop)]
+#[derive(Clone, Copy)]
 pub struct Millis(u64);
 
 impl LockCount {

@@ -1,0 +1,11 @@
+-- `octets::sum_blocks` meets its contract. Assumes nothing.
+use Prim.Native.Nat.{◌-◌}
+use lib.ListN.{length}
+use Rattle.octets.specs.Steps.{SummedTo}
+use Rattle.octets.proofs.sum_blocks.Given as goal
+
+abbrev pub invariant-loop-count : goal.invariant-loop-count
+invariant-loop-count l = SummedTo l.s l.value l.count
+
+abbrev pub decreases-loop-count : goal.decreases-loop-count
+decreases-loop-count l = length l.s - l.count
