@@ -1,4 +1,6 @@
 // The division of a recording: the walk over its positions, the plain reader and its companion.
+#![tactic(auto)]
+
 ghost use Rattle.std.specs.Prelude.{◌≡◌, ℕ, ◌+◌, ◌^◌, ◌<◌, ◌≤◌, false, ◌⊎◌, length, ◌≢◌};
 ghost use Rattle.division.specs.Walk.{further, whole_walk};
 ghost use Rattle.division.specs.Plain.{next_of, place_of, bytes_in};
@@ -9,14 +11,14 @@ use refusal::Refusal;
 
 // Where a walk stops: at a message, with the gap bytes before it, its length and how many of the first bytes settled it;
 // or at the first position that is not settled, or the end, with the gap bytes before.
-#[derive(Drop)]
+#[derive(Clone, Copy)]
 pub enum Walked {
     Message(usize, usize, usize),
     Unsettled(usize),
 }
 
 // Where a walk stops, and the bytes that it ran through the checksum, as far as 64 bits hold their number.
-#[derive(Drop)]
+#[derive(Clone, Copy)]
 pub struct Passage {
     pub walked: Walked,
     pub summed: usize,
@@ -24,7 +26,7 @@ pub struct Passage {
 
 // What the plain reader answers: a refusal; a message with its position in the whole slice, its length and the gap bytes before it;
 // the end with the gap bytes left.
-#[derive(Drop)]
+#[derive(Clone, Copy)]
 pub enum Next {
     Refused(Refusal),
     Message {
@@ -39,7 +41,7 @@ pub enum Next {
 
 // A step of a walk: it goes on from a position, with so many bytes needed up to there; or it stops. Either way the bytes that it ran through the
 // checksum.
-#[derive(Drop)]
+#[derive(Clone, Copy)]
 enum Step {
     On(usize, usize, usize),
     Stop(Walked, usize),

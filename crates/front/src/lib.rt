@@ -1,4 +1,6 @@
 // What the first bytes of a recording claim to be, when more may follow them.
+#![tactic(auto)]
+
 ghost use Rattle.std.specs.Prelude.{◌≡◌};
 ghost use Rattle.front.specs.Claim.{claim, counted};
 
@@ -6,7 +8,7 @@ use macm::Form;
 use octets::Fit;
 
 // Nothing that a message begins with; nothing to say with fewer bytes than so many; a message of so many bytes.
-#[derive(Drop)]
+#[derive(Clone, Copy)]
 pub enum Claim {
     Nothing,
     AtLeast(usize),
@@ -14,6 +16,7 @@ pub enum Claim {
 }
 
 // What the count byte says, of bytes that begin with the form's sync string.
+#[tactic(auto, unfolding(crate::specs::Claim::counted))]
 fn counts(form: Form, bytes: &[u8]) -> Claim
     ensures { result ≡ counted form bytes.now }
 {
@@ -25,6 +28,7 @@ fn counts(form: Form, bytes: &[u8]) -> Claim
 }
 
 // What the first bytes claim to be. Only the form's places matter, so its own fields are zero.
+#[tactic(auto, unfolding(crate::specs::Claim::claim, crate::specs::Claim::claim_by))]
 pub fn claims(bytes: &[u8]) -> Claim
     ensures { result ≡ claim bytes.now }
 {

@@ -1,5 +1,7 @@
 // Where lock broke: the messages of a recording go in one a call, and of those of one TYPE the breaks come out. A history is lent words: TYPE, then for
 // each SID whether it was seen, its last time and its last lock count. The list is lent too, three numbers for each break. A refusal changes neither.
+#![tactic(auto)]
+
 ghost use Rattle.std.specs.Prelude.{◌≡◌, [], ◌∷◌, ◌+◌, ◌*◌, ◌≤◌, length};
 ghost use Rattle.octets.specs.Parts.{put, part};
 ghost use Rattle.macm.specs.Form.{size};
@@ -24,7 +26,7 @@ pub const CLOCK_BACK: u64 = 1;
 pub const NEW_LOCK: u64 = 2;
 
 // An observation as a history takes it: its SID, the time of its message and its lock count.
-#[derive(Drop)]
+#[derive(Clone, Copy)]
 pub struct Appearance {
     pub sid: u8,
     pub time: u32,
@@ -32,7 +34,7 @@ pub struct Appearance {
 }
 
 // What a history has of a SID: whether it was seen, which is any word but 0, and its last time and lock count.
-#[derive(Drop)]
+#[derive(Clone, Copy)]
 pub struct Last {
     pub seen: u64,
     pub time: u64,
@@ -40,7 +42,7 @@ pub struct Last {
 }
 
 // What a call answers: a refusal, or how many breaks stand at the front of the list.
-#[derive(Drop)]
+#[derive(Clone, Copy)]
 pub enum Breaks {
     Refused(Refusal),
     Listed(usize),
@@ -168,6 +170,7 @@ fn is_of(signal: u64, form: Form) -> bool
 }
 
 // Of a message whose header was read: the list is looked at before TYPE.
+#[tactic(auto, using(crate::proofs::CallSteps::call_without_room, crate::proofs::CallSteps::call_passes_over))]
 fn list_breaks(
     history: &mut [u64],
     list: &mut [u64],

@@ -2,17 +2,18 @@
 use mathlib.Core.Path.{refl}
 use Rattle.owed.specs.Determined.{Determined}
 use Rattle.owed.proofs.Same.{both}
+use Rattle.lines.specs.contracts as contracts
 use Rattle.lines.proofs as lines
 
-pub put_line_determined : Determined lines.put_line.ended lines.put_line.Reads.Learnt
+pub put_line_determined : Determined contracts.put_line.ended lines.put_line.Reads.Learnt
 put_line_determined κs a z z' w w' p q = search both
 
-pub put_end_determined : Determined lines.put_end.ended lines.put_end.Reads.Learnt
+pub put_end_determined : Determined contracts.put_end.ended lines.put_end.Reads.Learnt
 put_end_determined κs a z z' w w' p q = search both
 
-pub put_rows_determined : Determined lines.put_rows.ended lines.put_rows.Reads.Learnt
+pub put_rows_determined : Determined contracts.put_rows.ended lines.put_rows.Reads.Learnt
 put_rows_determined κs a z z' w w' p q = search both
 
-pub put_breaks_determined : Determined lines.put_breaks.ended lines.put_breaks.Reads.Learnt
+pub put_breaks_determined : Determined contracts.put_breaks.ended lines.put_breaks.Reads.Learnt
 put_breaks_determined κs a z z' w w' p q =
     (both p.text.next q.text.next, (both p.text.bytes q.text.bytes, (refl, (refl, (refl, (both p.words q.words, (both p.listed q.listed, tt)))))))

@@ -1,5 +1,7 @@
 // The lines that the programs print, put into a lent buffer as `text` puts numbers: of a message in the listing, of an observation for the people who
 // compute the track, of a break of lock, and the listing's last.
+#![tactic(auto)]
+
 ghost use Rattle.std.specs.Prelude.{◌++◌, ◌*◌, ◌≤◌, length};
 ghost use Rattle.text.specs.Put.{Puts};
 ghost use Rattle.lines.specs.Listing.{form_text, message_text, line_text, end_text};

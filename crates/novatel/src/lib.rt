@@ -1,5 +1,7 @@
 // NovAtel's compressed range log, RANGECMP: its 24-byte range record, read and written, and the ADR less its rolls.
 // Numbers are whole and in the log's own steps. Every public function takes all inputs; what each answers is a definition of specs/.
+#![tactic(auto)]
+
 ghost use Rattle.std.specs.Prelude.{◌≡◌, ◌&&◌, ◌+◌, ◌*◌, ◌<◌, ◌≤◌, pos, neg_ℤ, length};
 ghost use Rattle.std.specs.Int.Signed.{mag};
 ghost use Rattle.novatel.specs.Record.{record_of, record_bytes, fits};
@@ -10,7 +12,7 @@ ghost use Rattle.novatel.specs.Rolls.{rolls_of, corrected_of};
 use refusal::{Refusal, Written};
 
 // The fields of a record: Doppler in 1/256 Hz, range in 1/128 m, ADR in 1/256 cycle, the deviations' codes, lock in 1/32 s, C/N0 in d_b_Hz.
-#[derive(Drop)]
+#[derive(Clone, Copy)]
 pub struct Record {
     pub status: u64,
     pub doppler: i64,
@@ -25,14 +27,14 @@ pub struct Record {
 }
 
 // What reading answers.
-#[derive(Drop)]
+#[derive(Clone, Copy)]
 pub enum Reading {
     Refused(Refusal),
     Read(Record),
 }
 
 // What correcting answers: a refusal, or the rolls and the ADR less these.
-#[derive(Drop)]
+#[derive(Clone, Copy)]
 pub enum Correction {
     Refused(Refusal),
     Corrected { rolls: i64, adr: i64 },
@@ -63,7 +65,7 @@ pub fn deviation_of_adr(code: u64) -> u64
 // ---- rolls
 
 // A range in 1/256 cycle: the whole ones, and what is left in parts of L1's wavelength over 16.
-#[derive(Drop)]
+#[derive(Clone, Copy)]
 struct Cycles {
     whole: u64,
     rest: u64,

@@ -1,4 +1,6 @@
 // Numbers for the people who compute the track, from the fields that a message carries: range, plot row, phase, CONDITION and OFFSET.
+#![tactic(auto)]
+
 ghost use Rattle.std.specs.Prelude.{◌≡◌};
 ghost use Rattle.track.specs.Range.{range_of};
 ghost use Rattle.track.specs.Row.{row_of, Bounded};
@@ -11,14 +13,14 @@ mod narrow;
 
 // A row for the plot: range in metres and rate in hertz.
 #[repr(C)]
-#[derive(Drop)]
+#[derive(Clone, Copy)]
 pub struct PlotRow {
     pub range: f64,
     pub rate: f64,
 }
 
 // PHASE as it may be shown, with what its polarity says of it. Cycles are the double with the bits of the message: nothing is added to them.
-#[derive(Drop)]
+#[derive(Clone, Copy)]
 pub enum Phase {
     // An observation of the old form, or one whose CONDITION says that PHASE is not valid.
     Withheld,
@@ -35,7 +37,7 @@ pub enum Phase {
 }
 
 // OFFSET as it may be shown.
-#[derive(Drop)]
+#[derive(Clone, Copy)]
 pub enum Offset {
     // An infinity or a NaN.
     NotFinite,
@@ -44,7 +46,7 @@ pub enum Offset {
 }
 
 // PHASE Polarity State, by its code.
-#[derive(Drop)]
+#[derive(Clone, Copy)]
 pub enum Polarity {
     // 0.
     NotKnown,
@@ -57,7 +59,7 @@ pub enum Polarity {
 }
 
 // CONDITION in the new form, by the names of 000's table 5. `maker` is the four highest bits, which the maker defines.
-#[derive(Drop)]
+#[derive(Clone, Copy)]
 pub struct Flags {
     pub satellite_health: bool,
     pub pr_validity: bool,
@@ -73,7 +75,7 @@ pub struct Flags {
 }
 
 // What CONDITION says: in the old form the maker defines every bit.
-#[derive(Drop)]
+#[derive(Clone, Copy)]
 pub enum Condition {
     Flagged(Flags),
     MakerDefined(u16),
