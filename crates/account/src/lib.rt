@@ -1,4 +1,6 @@
 // The account of a short recording: the reason of each position, a line each, put into a lent buffer as `text` puts numbers.
+#![tactic(auto)]
+
 ghost use Rattle.std.specs.Prelude.{◌≡◌, ◌+◌, ◌-◌, ◌<◌};
 ghost use Rattle.text.specs.Put.{Puts};
 ghost use Rattle.account.specs.Account.{said_text, reason_text, lines_of, account_text, report_text};

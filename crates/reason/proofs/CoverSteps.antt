@@ -1,19 +1,15 @@
 -- Where a position is covered, from one message of the division to the next. Assumes nothing.
 use Prim.Native.Nat.{ℕ, ◌+◌, ◌-◌, ◌≤◌, ◌<◌}
 use mathlib.Core.Path.{◌≡◌, refl, sym, ap, ◌∙◌}
-use mathlib.Core.Logic.{inl, inr}
 use mathlib.Core.Bool.{Bool, true, false, cond}
-use mathlib.Core.List.{List, [], ◌∷◌}
+use mathlib.Core.List.{List, ◌∷◌}
 use native.Mathlib.Omega.{arith}
 use native.Mathlib.Numerals.{add-one}
 use lib.ListN.{length, get_or, take, drop, length-drop}
 use lib.Seq.{length-take-le, take_all, drop-cons, drop-drop}
 use lib.Dec.{ltb}
 use borrow.Author.Tests.{lt-ltb, le-ltb}
-use denote.Enum.Declared.{tag_of}
-use types.Run.{OneOf}
 use Rattle.refusal.specs.declared.Refusal.TheVariants.{PastEnd}
-use Rattle.division.specs.contracts.Next as next
 use Rattle.division.specs.declared.Next.{Next}
 use Rattle.division.specs.declared.Next.TheVariants.{Refused as NotFound, Message as Found, End as NoneLeft}
 use Rattle.division.specs.declared.Walked.{Walked}
@@ -110,13 +106,12 @@ module _ (s : List ℕ) (at p : ℕ) (l : at ≤ length s) where
     pub found_says : (q n g : ℕ) → r ≡ Found q n g → Onward s at p q n
     found_says q n g z = rw (← e, z) at next_says
 
-    pub none_says : OneOf (0 ∷ 2 ∷ []) (tag_of next.the_type r) → cover_in (divide (drop at s) 0) at p ≡ p
+    pub none_says : ((q n g : ℕ) → r ≡ Found q n g → ⊥) → cover_in (divide (drop at s) 0) at p ≡ p
     none_says t = go r t (rw (← e) at next_says)
       where
-        go : (r : Next) → OneOf (0 ∷ 2 ∷ []) (tag_of next.the_type r) → Next_says s at p r → cover_in (divide (drop at s) 0) at p ≡ p
+        go : (r : Next) → ((q n g : ℕ) → r ≡ Found q n g → ⊥) → Next_says s at p r → cover_in (divide (drop at s) 0) at p ≡ p
         go (NotFound r) t h = absurd h
-        go (Found q n g) (inl e) h = absurd (omega arith)
-        go (Found q n g) (inr e) h = absurd (omega arith)
+        go (Found q n g) t h = absurd (t q n g refl)
         go (NoneLeft g) t h = h
 
 -- ---- the reason at a position

@@ -1,4 +1,6 @@
 // Why a position of a recording is the first byte of a message that is given, or is not.
+#![tactic(auto)]
+
 ghost use Rattle.std.specs.Prelude.{◌≡◌, ◌≤◌, length};
 ghost use Rattle.reason.specs.Reason.{wrong_at, residue_of, summed, here_of, cover_of, reason_of};
 
@@ -8,7 +10,7 @@ use refusal::Refusal;
 
 // Inside the given message that begins at a position; given, with so many bytes; byte k of the sync, counted from 1, is the first that fits neither form;
 // cut short before the count byte, or by so many bytes; the checksum is off, with the residue.
-#[derive(Drop)]
+#[derive(Clone, Copy)]
 pub enum Reason {
     Refused(Refusal),
     Inside(usize),
@@ -45,6 +47,7 @@ fn sum(bytes: &[u8], n: usize) -> Reason
 }
 
 // Of the first of these bytes, which no message covers (12 where there is none).
+#[tactic(auto, unfolding(crate::specs::Reason::here_of, crate::specs::Reason::said_by))]
 pub fn reason_here(bytes: &[u8]) -> Reason
     ensures { result ≡ here_of bytes.now }
 {
@@ -90,6 +93,7 @@ fn cover(recording: &[u8], position: usize) -> usize
 }
 
 // The reason at a position (12).
+#[tactic(auto, unfolding(crate::specs::Reason::reason_of))]
 pub fn reason_at(recording: &[u8], position: usize) -> Reason
     ensures { result ≡ reason_of recording.now position }
 {

@@ -1,5 +1,7 @@
 // The stream reader: pieces of a recording go in, one message a call comes out. The state goes in by value and comes back; the window, which holds
 // the bytes that a cut left over, and the output are lent.
+#![tactic(auto)]
+
 ghost use Rattle.std.specs.Prelude.{◌≡◌, [], ◌++◌, ◌+◌, ◌-◌, ◌^◌, ◌<◌, ◌≤◌, length, take, drop, replicate};
 ghost use Rattle.std.proofs.Math.Seq.{paste};
 ghost use mir.Val.{bool_byte};
@@ -16,7 +18,7 @@ use refusal::Refusal;
 // The bytes held in the window, the gap bytes before them, all bytes taken, whether the end was announced (0, or anything else), and all bytes
 // run through the checksum.
 #[repr(C)]
-#[derive(Drop)]
+#[derive(Clone, Copy)]
 pub struct State {
     pub held: u64,
     pub gap: u64,
@@ -27,7 +29,7 @@ pub struct State {
 
 // A refusal; all of the piece is taken and more is needed; a message with its length, the gap before it and the bytes taken;
 // the end with its gap.
-#[derive(Drop)]
+#[derive(Clone, Copy)]
 pub enum Answer {
     Refused(Refusal),
     NeedsMore,
@@ -35,14 +37,14 @@ pub enum Answer {
     End { gap: u64 },
 }
 
-#[derive(Drop)]
+#[derive(Clone, Copy)]
 pub struct Reply {
     pub answer: Answer,
     pub state: State,
 }
 
 // Whether a call goes on.
-#[derive(Drop)]
+#[derive(Clone, Copy)]
 enum Gate {
     Refused(Refusal),
     Open,
@@ -50,14 +52,14 @@ enum Gate {
 
 // What a call comes to: a message with its length, or none; then the gap bytes, the bytes of the piece taken, and the bytes held at the front of
 // the window after it.
-#[derive(Drop)]
+#[derive(Clone, Copy)]
 enum Outcome {
     Message(usize, usize, usize, usize),
     Nothing(usize, usize, usize),
 }
 
 // With the bytes that the call ran through the checksum.
-#[derive(Drop)]
+#[derive(Clone, Copy)]
 struct Counted {
     outcome: Outcome,
     summed: usize,
@@ -85,6 +87,7 @@ fn bad_state(held: u64, gap: u64, total: u64, summed: u64) -> bool
 }
 
 // 8, 9, 10 and 11 in rising order. A finish is checked as a feed of no bytes for which no end was announced.
+#[tactic(auto, unfolding(crate::specs::Reader::feed_checked, crate::specs::Reader::feed_checked_by, crate::specs::Reader::checked))]
 fn checks(state: State, announced: u64, window: usize, output: usize, piece: usize) -> Gate
     ensures { result ≡ feed_checked (record { held = state.held; gap = state.gap; total = state.total; ended = announced; summed = state.summed }) window output piece }
 {

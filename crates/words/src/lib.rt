@@ -1,5 +1,7 @@
 // The words of 64 bits that cross the C boundary: the structs of include/cablesound.h, what words that come in stand for, and what each answer of
 // the library is in words.
+#![tactic(auto)]
+
 ghost use Rattle.std.specs.Prelude.{◌≡◌};
 ghost use Rattle.words.specs.Words.{low_bits, form_in, header_in, observation_in, header_words, observation_words, head_words, observed_words, written_words, found_words, reason_words, answer_words, phase_words, listed_words, record_in, record_out, record_words, adr_words};
 
@@ -13,7 +15,7 @@ use stream::Answer;
 use track::Phase;
 
 #[repr(C)]
-#[derive(Drop)]
+#[derive(Clone, Copy)]
 pub struct HeaderWords {
     pub form: u64,
     pub version: u64,
@@ -24,7 +26,7 @@ pub struct HeaderWords {
 }
 
 #[repr(C)]
-#[derive(Drop)]
+#[derive(Clone, Copy)]
 pub struct ObservationWords {
     pub sid: u64,
     pub condition: u64,
@@ -36,7 +38,7 @@ pub struct ObservationWords {
 }
 
 #[repr(C)]
-#[derive(Drop)]
+#[derive(Clone, Copy)]
 pub struct HeadWords {
     pub refusal: u64,
     pub count: u64,
@@ -44,21 +46,21 @@ pub struct HeadWords {
 }
 
 #[repr(C)]
-#[derive(Drop)]
+#[derive(Clone, Copy)]
 pub struct ObservedWords {
     pub refusal: u64,
     pub observation: ObservationWords,
 }
 
 #[repr(C)]
-#[derive(Drop)]
+#[derive(Clone, Copy)]
 pub struct WrittenWords {
     pub refusal: u64,
     pub length: u64,
 }
 
 #[repr(C)]
-#[derive(Drop)]
+#[derive(Clone, Copy)]
 pub struct FoundWords {
     pub refusal: u64,
     pub kind: u64,
@@ -68,7 +70,7 @@ pub struct FoundWords {
 }
 
 #[repr(C)]
-#[derive(Drop)]
+#[derive(Clone, Copy)]
 pub struct ReasonWords {
     pub refusal: u64,
     pub kind: u64,
@@ -76,7 +78,7 @@ pub struct ReasonWords {
 }
 
 #[repr(C)]
-#[derive(Drop)]
+#[derive(Clone, Copy)]
 pub struct AnswerWords {
     pub refusal: u64,
     pub kind: u64,
@@ -86,7 +88,7 @@ pub struct AnswerWords {
 }
 
 #[repr(C)]
-#[derive(Drop)]
+#[derive(Clone, Copy)]
 pub struct PhaseWords {
     pub kind: u64,
     pub code: u64,
@@ -94,14 +96,14 @@ pub struct PhaseWords {
 }
 
 #[repr(C)]
-#[derive(Drop)]
+#[derive(Clone, Copy)]
 pub struct ListedWords {
     pub refusal: u64,
     pub count: u64,
 }
 
 #[repr(C)]
-#[derive(Drop)]
+#[derive(Clone, Copy)]
 pub struct RecordWords {
     pub refusal: u64,
     pub status: u64,
@@ -117,7 +119,7 @@ pub struct RecordWords {
 }
 
 #[repr(C)]
-#[derive(Drop)]
+#[derive(Clone, Copy)]
 pub struct AdrWords {
     pub refusal: u64,
     pub rolls: i64,

@@ -1,0 +1,51 @@
+-- `reason::cover` meets its contract: where the division from the loop's place on covers the position is where the whole one does. Assumes nothing.
+use mathlib.Core.Path.{sym, ◌∙◌}
+use native.Mathlib.Omega.{arith}
+use Rattle.reason.proofs.CoverSteps.{cover_before, found_says, none_says, covered_there, covered_by_none, covered_onward}
+use Rattle.reason.proofs.cover.Goals as goal
+
+pub returns-in_default : goal.returns-in_default
+returns-in_default c =
+    let a = c.args in
+    let l = c.loop-at in
+    sym (l.invariant.1 ∙ none_says a.recording.now l.at a.position l.invariant.0 _ c.next_message.ensures c.in_default.not-Message)
+
+pub overflow_add-end : goal.overflow_add-end
+overflow_add-end c =
+    let a = c.args in
+    let l = c.loop-at in
+    let h = found_says a.recording.now l.at a.position l.invariant.0 _ c.next_message.ensures _ _ _ c.in-Message.is in
+    omega (arith, h.within)
+
+pub returns-then-start-position : goal.returns-then-start-position
+returns-then-start-position c =
+    let a = c.args in
+    let l = c.loop-at in
+    let h = found_says a.recording.now l.at a.position l.invariant.0 _ c.next_message.ensures _ _ _ c.in-Message.is in
+    sym (l.invariant.1 ∙ covered_there a.recording.now l.at a.position _ _ h c.if-position-end.true c.if-start-position.true)
+
+pub returns-else-start-position : goal.returns-else-start-position
+returns-else-start-position c =
+    let a = c.args in
+    let l = c.loop-at in
+    let h = found_says a.recording.now l.at a.position l.invariant.0 _ c.next_message.ensures _ _ _ c.in-Message.is in
+    sym (l.invariant.1 ∙ covered_by_none a.recording.now l.at a.position _ _ h c.if-position-end.true c.if-start-position.false)
+
+pub loop-at-smaller : goal.loop-at-smaller
+loop-at-smaller c =
+    let a = c.args in
+    let l = c.loop-at in
+    let h = found_says a.recording.now l.at a.position l.invariant.0 _ c.next_message.ensures _ _ _ c.in-Message.is in
+    omega (arith, h.from, h.some, h.within)
+
+pub loop-at-preserved : goal.loop-at-preserved
+loop-at-preserved c =
+    let a = c.args in
+    let l = c.loop-at in
+    let h = found_says a.recording.now l.at a.position l.invariant.0 _ c.next_message.ensures _ _ _ c.in-Message.is in
+    (h.within, l.invariant.1 ∙ covered_onward a.recording.now l.at a.position _ _ h c.if-position-end.false)
+
+pub returns : goal.returns
+returns c =
+    let l = c.loop-at in
+    sym (l.invariant.1 ∙ cover_before _ _ _ c.loop-at-test.false)
