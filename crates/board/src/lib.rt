@@ -1,5 +1,7 @@
-// The entries for a C host, declared in include/cablesound.h: each is thin over the library below it. A slice comes in as pointer and length, structs
-// of 64-bit words go by value, and the stream reader's state is lent for the call.
+// What the entries for a C host do, which board_c exports: each is thin over the library below it. Structs of 64-bit words go by value, and the stream
+// reader's state is lent for the call.
+#![tactic(auto)]
+
 ghost use Rattle.std.specs.Prelude.{◌≡◌, length};
 ghost use Rattle.macm.specs.Check.{verdict};
 ghost use Rattle.macm.specs.Read.{head_of, observed_of};
@@ -28,8 +30,7 @@ use words::{AnswerWords, ObservationWords, RecordWords, WrittenWords};
 
 // ---- one message
 
-#[unsafe(no_mangle)]
-pub extern "C" fn cs_check(message: &[u8]) -> u64
+pub fn cs_check(message: &[u8]) -> u64
     ensures { result ≡ check_number (verdict message.now) }
 {
     match macm::check(message) {
@@ -38,44 +39,38 @@ pub extern "C" fn cs_check(message: &[u8]) -> u64
     }
 }
 
-#[unsafe(no_mangle)]
-pub extern "C" fn cs_read_header(message: &[u8]) -> words::HeadWords
+pub fn cs_read_header(message: &[u8]) -> words::HeadWords
     ensures { result ≡ head_words (head_of message.now) }
 {
     words::head_words(macm::read_header(message))
 }
 
-#[unsafe(no_mangle)]
-pub extern "C" fn cs_read_observation(message: &[u8], index: usize) -> words::ObservedWords
+pub fn cs_read_observation(message: &[u8], index: usize) -> words::ObservedWords
     ensures { result ≡ observed_words (observed_of message.now index) }
 {
     words::observed_words(macm::read_observation(message, index))
 }
 
-#[unsafe(no_mangle)]
-pub extern "C" fn cs_start(output: &mut [u8], header: words::HeaderWords, count: u8) -> WrittenWords
+pub fn cs_start(output: &mut [u8], header: words::HeaderWords, count: u8) -> WrittenWords
     ensures { (result ≡ written_words (start_of (header_in header) count output.old)) × (output.new ≡ start_bytes (header_in header) count output.old) }
 {
     words::written_words(compose::start(output, words::header_in(header), count))
 }
 
-#[unsafe(no_mangle)]
-pub extern "C" fn cs_set(message: &mut [u8], index: usize, observation: ObservationWords) -> u64
+pub fn cs_set(message: &mut [u8], index: usize, observation: ObservationWords) -> u64
     ensures { (result ≡ written_number (set_of message.old index)) × (message.new ≡ set_bytes message.old index (observation_in observation)) }
 {
     let written = compose::set(message, index, words::observation_in(observation));
     words::written_words(written).refusal
 }
 
-#[unsafe(no_mangle)]
-pub extern "C" fn cs_to_new(message: &[u8], signal: u8, tfom: u8, output: &mut [u8]) -> WrittenWords
+pub fn cs_to_new(message: &[u8], signal: u8, tfom: u8, output: &mut [u8]) -> WrittenWords
     ensures { (result ≡ written_words (convert_of (Form.New signal tfom) message.now output.old)) × (output.new ≡ convert_bytes (Form.New signal tfom) message.now output.old) }
 {
     words::written_words(compose::to_new(message, signal, tfom, output))
 }
 
-#[unsafe(no_mangle)]
-pub extern "C" fn cs_to_old(message: &[u8], version: u8, output: &mut [u8]) -> WrittenWords
+pub fn cs_to_old(message: &[u8], version: u8, output: &mut [u8]) -> WrittenWords
     ensures { (result ≡ written_words (convert_of (Form.Old version) message.now output.old)) × (output.new ≡ convert_bytes (Form.Old version) message.now output.old) }
 {
     words::written_words(compose::to_old(message, version, output))
@@ -83,35 +78,26 @@ pub extern "C" fn cs_to_old(message: &[u8], version: u8, output: &mut [u8]) -> W
 
 // ---- a recording, whole and in pieces
 
-#[unsafe(no_mangle)]
-pub extern "C" fn cs_next(recording: &[u8], start: usize) -> words::FoundWords
+pub fn cs_next(recording: &[u8], start: usize) -> words::FoundWords
     ensures { result ≡ found_words (next_of recording.now start) }
 {
     words::found_words(division::next_message(recording, start))
 }
 
-#[unsafe(no_mangle)]
-pub extern "C" fn cs_why(recording: &[u8], position: usize) -> words::ReasonWords
+pub fn cs_why(recording: &[u8], position: usize) -> words::ReasonWords
     ensures { result ≡ reason_words (reason_of recording.now position) }
 {
     words::reason_words(reason::reason_at(recording, position))
 }
 
-#[unsafe(no_mangle)]
-pub extern "C" fn cs_fresh() -> State
+pub fn cs_fresh() -> State
     ensures { result ≡ fresh_state }
 {
     stream::fresh()
 }
 
 // Feeds a reader whose state the host keeps.
-#[unsafe(no_mangle)]
-pub extern "C" fn cs_feed(
-    state: &mut State,
-    piece: &[u8],
-    window: &mut [u8],
-    output: &mut [u8],
-) -> AnswerWords
+pub fn cs_feed(state: &mut State, piece: &[u8], window: &mut [u8], output: &mut [u8]) -> AnswerWords
     ensures { Finds (feed_call state.old piece.now window.old output.old) (length piece.now) state.new result window.new output.new }
 {
     let before = *state;
@@ -121,8 +107,7 @@ pub extern "C" fn cs_feed(
 }
 
 // Finishes a reader whose state the host keeps.
-#[unsafe(no_mangle)]
-pub extern "C" fn cs_finish(state: &mut State, window: &mut [u8], output: &mut [u8]) -> AnswerWords
+pub fn cs_finish(state: &mut State, window: &mut [u8], output: &mut [u8]) -> AnswerWords
     ensures { Finds (finish_call state.old window.old output.old) 0 state.new result window.new output.new }
 {
     let before = *state;
@@ -133,15 +118,13 @@ pub extern "C" fn cs_finish(state: &mut State, window: &mut [u8], output: &mut [
 
 // ---- where lock broke
 
-#[unsafe(no_mangle)]
-pub extern "C" fn cs_breaks_fresh(history: &mut [u64; history::WORDS], signal: u8)
+pub fn cs_breaks_fresh(history: &mut [u64; history::WORDS], signal: u8)
     ensures { history.new ≡ fresh_words signal }
 {
     history::fresh(history, signal);
 }
 
-#[unsafe(no_mangle)]
-pub extern "C" fn cs_breaks(
+pub fn cs_breaks(
     message: &[u8],
     history: &mut [u64; history::WORDS],
     list: &mut [u64],
@@ -153,30 +136,26 @@ pub extern "C" fn cs_breaks(
 
 // ---- numbers for the track people
 
-#[unsafe(no_mangle)]
-pub extern "C" fn cs_range_um(pseudorange: u32) -> u64
+pub fn cs_range_um(pseudorange: u32) -> u64
     ensures { result ≡ range_of pseudorange }
 {
     track::range_of(pseudorange)
 }
 
-#[unsafe(no_mangle)]
-pub extern "C" fn cs_lock_ms(lock: u32) -> u64
+pub fn cs_lock_ms(lock: u32) -> u64
     ensures { result ≡ millis_in (lock_millis (lock_of lock)) }
 {
     units::since_lock(units::LockCount::from_count(lock)).number()
 }
 
-#[unsafe(no_mangle)]
-pub extern "C" fn cs_phase(form: u64, observation: ObservationWords) -> words::PhaseWords
+pub fn cs_phase(form: u64, observation: ObservationWords) -> words::PhaseWords
     ensures { result ≡ phase_words (phase_of (form_in form 0 0 0) (observation_in observation)) }
 {
     let form = words::form_in(form, 0, 0, 0);
     words::phase_words(track::phase_of(form, words::observation_in(observation)))
 }
 
-#[unsafe(no_mangle)]
-pub extern "C" fn cs_plot_row(pseudorange: u32, rate: i32) -> track::PlotRow
+pub fn cs_plot_row(pseudorange: u32, rate: i32) -> track::PlotRow
     ensures { (result ≡ row_of pseudorange rate) × Bounded pseudorange rate result }
 {
     track::plot_row(pseudorange, rate)
@@ -184,36 +163,31 @@ pub extern "C" fn cs_plot_row(pseudorange: u32, rate: i32) -> track::PlotRow
 
 // ---- NovAtel's range record
 
-#[unsafe(no_mangle)]
-pub extern "C" fn cs_rangecmp_read(bytes: &[u8]) -> RecordWords
+pub fn cs_rangecmp_read(bytes: &[u8]) -> RecordWords
     ensures { result ≡ record_words (reading_of bytes.now) }
 {
     words::record_words(novatel::read_record(bytes))
 }
 
-#[unsafe(no_mangle)]
-pub extern "C" fn cs_rangecmp_write(output: &mut [u8], fields: RecordWords) -> WrittenWords
+pub fn cs_rangecmp_write(output: &mut [u8], fields: RecordWords) -> WrittenWords
     ensures { (result ≡ written_words (writing_of (record_in fields) output.old)) × (output.new ≡ writing_bytes (record_in fields) output.old) }
 {
     words::written_words(novatel::write_record(output, words::record_in(fields)))
 }
 
-#[unsafe(no_mangle)]
-pub extern "C" fn cs_rangecmp_adr(bytes: &[u8]) -> words::AdrWords
+pub fn cs_rangecmp_adr(bytes: &[u8]) -> words::AdrWords
     ensures { result ≡ adr_words (correction_of bytes.now) }
 {
     words::adr_words(novatel::corrected_adr(bytes))
 }
 
-#[unsafe(no_mangle)]
-pub extern "C" fn cs_rangecmp_range_mm(code: u64) -> u64
+pub fn cs_rangecmp_range_mm(code: u64) -> u64
     ensures { result ≡ range_deviation code }
 {
     novatel::deviation_of_range(code)
 }
 
-#[unsafe(no_mangle)]
-pub extern "C" fn cs_rangecmp_adr_512ths(code: u64) -> u64
+pub fn cs_rangecmp_adr_512ths(code: u64) -> u64
     ensures { result ≡ adr_deviation code }
 {
     novatel::deviation_of_adr(code)
