@@ -1,4 +1,8 @@
 // Where lock broke in the messages of one TYPE: a recording on standard input, a line a break out.
-fn main() {
-    report::breaks();
+#![tactic(auto)]
+
+use std::process::ExitCode;
+
+fn main(rt: HostRuntime) -> ExitCode {
+    ExitCode::from(report::breaks(&rt))
 }

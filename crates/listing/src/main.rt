@@ -1,4 +1,8 @@
 // The listing of a recording: standard input in, a line a message out.
-fn main() {
-    report::listing();
+#![tactic(auto)]
+
+use std::process::ExitCode;
+
+fn main(rt: HostRuntime) -> ExitCode {
+    ExitCode::from(report::listing(&rt))
 }

@@ -1,14 +1,31 @@
 // What the programs share: a recording comes in on standard input in large blocks, is divided where it stands in the buffer, and its lines go out in
 // large blocks. What a line says is proved in `lines` and `account`, that blocks divided so give the division of the recording in `promises`; what a
 // program prints is held to stored output.
+#![tactic(auto)]
+
 ghost use Rattle.std.specs.Prelude.{◌≡◌};
+ghost use Rattle.report.specs.Ends.{IsEnd};
 
 use argument::Small;
+use blocks::Block;
 use division::Walked;
+use std::env::{Env, FillError};
+use std::io;
+use std::io::ErrorKind;
 use std::num::{wrapping_add_u64, wrapping_add_usize};
 
+mod blocks;
+mod failure;
+
+// How a program ends: 0, 1 after a line that says why, or as a process that SIGPIPE ends, since a reader that goes away, as `head` does, is no failure.
+const WELL: u8 = 0;
+
+const FAILED: u8 = 1;
+
+const READER_GONE: u8 = 141;
+
 // What is printed of the messages: a line of each, the rows of its observations, or the breaks of lock in those of one TYPE.
-#[derive(Drop)]
+#[derive(Clone, Copy)]
 enum Printed {
     Listing,
     Rows,
@@ -16,8 +33,8 @@ enum Printed {
 }
 
 // How far the recording is printed: as what; the messages, the gap bytes and all bytes so far; where the bytes of the buffer that are yet to be
-// divided begin and end; whether no more will come; the bytes of text that wait to be written; and whether there is more to do.
-#[derive(Drop)]
+// divided begin and end; whether no more will come; the bytes of text that wait to be written; how it ends as it stands; and whether there is more to do.
+#[derive(Clone, Copy)]
 struct Progress {
     printed: Printed,
     messages: u64,
@@ -27,6 +44,7 @@ struct Progress {
     end: usize,
     over: bool,
     waiting: usize,
+    status: u8,
     going: bool,
 }
 
@@ -59,52 +77,75 @@ fn keep(buffer: &mut [u8], from: usize, end: usize) -> usize {
     count
 }
 
-// Reads a block behind those that were kept: 0 bytes at the end of the input, and where reading fails, which is said. A line on standard error that
-// begins with `error: ` is a failure: `cablesound` turns it into the exit status that a program has not.
-fn read_behind(buffer: &mut [u8], kept: usize) -> usize {
-    if buffer.len() < kept {
-        return 0;
-    }
-    let room = &mut buffer[kept..];
-    let got = libc::read(libc::STDIN_FILENO, room);
-    if got < 0 {
-        os::fail(b"error: standard input");
-    }
-    io::count(got, room)
+/// Says on standard error why a stream or a file fails, and answers the status of a program that ends so.
+pub fn failed(rt: &HostRuntime, stream: &str, error: &io::Error) -> u8
+    ensures { result ≡ 1 }
+{
+    failure::say(rt, stream, error);
+    FAILED
 }
 
-fn read_on(progress: Progress, buffer: &mut [u8]) -> Progress {
+// Reads a block behind those that were kept. Where reading fails that is said, and the input is over.
+fn read_on(rt: &HostRuntime, progress: Progress, buffer: &mut [u8]) -> Progress
+    requires { IsEnd progress.status }
+    ensures { IsEnd result.status }
+{
     let kept = keep(buffer, progress.from, progress.end);
-    let got = read_behind(buffer, kept);
-    Progress {
-        from: 0,
-        end: wrapping_add_usize(kept, got),
-        over: got == 0,
-        ..progress
+    match blocks::read_behind(&mut rt.stdin(), buffer, kept) {
+        Ok(got) => Progress {
+            from: 0,
+            end: wrapping_add_usize(kept, got),
+            over: got == 0,
+            ..progress
+        },
+        Err(error) => Progress {
+            from: 0,
+            end: kept,
+            over: true,
+            status: failed(rt, "standard input", &error),
+            ..progress
+        },
     }
 }
 
 // ---- text out
 
-// Writes out the text that waits, or says why it cannot. That a reader has gone away, as `head` does, is no failure.
-fn write_out(text: &[u8], waiting: usize) -> bool {
-    if io::write_all(libc::STDOUT_FILENO, text::front(text, waiting)) {
-        return true;
+// Writes out the text that waits, or says why it cannot, but for a reader that has gone away.
+fn write_out(rt: &HostRuntime, text: &[u8], waiting: usize) -> u8
+    ensures { IsEnd result }
+{
+    match blocks::write_out(&mut rt.stdout(), text::front(text, waiting)) {
+        Ok(()) => WELL,
+        Err(error) => {
+            if error.kind() == ErrorKind::BrokenPipe {
+                READER_GONE
+            } else {
+                failed(rt, "standard output", &error)
+            }
+        }
     }
-    if os::errno() != libc::EPIPE {
-        os::fail(b"error: standard output");
-    }
-    false
 }
 
-// Nothing waits any more; where it cannot be written there is no more to do.
-fn written(progress: Progress, text: &[u8]) -> Progress {
-    let going = write_out(text, progress.waiting);
+// Nothing waits any more; where it cannot be written there is no more to do. The first failure says how the program ends.
+fn written(rt: &HostRuntime, progress: Progress, text: &[u8]) -> Progress
+    requires { IsEnd progress.status }
+    ensures { IsEnd result.status }
+{
+    let status = write_out(rt, text, progress.waiting);
     Progress {
         waiting: 0,
-        going,
+        status: first_of(progress.status, status),
+        going: status == WELL,
         ..progress
     }
+}
+
+fn first_of(first: u8, second: u8) -> u8
+    requires first { IsEnd first }
+    requires second { IsEnd second }
+    ensures { IsEnd result }
+{
+    if first == WELL { second } else { first }
 }
 
 // What is printed of a message; the breaks go by a history, and through a list.
@@ -129,7 +170,10 @@ fn put_message(
 // ---- the division
 
 // So many gap bytes.
-fn passed(progress: Progress, count: usize) -> Progress {
+fn passed(progress: Progress, count: usize) -> Progress
+    requires { IsEnd progress.status }
+    ensures { IsEnd result.status }
+{
     Progress {
         gap: wrapping_add_u64(progress.gap, count as u64),
         position: wrapping_add_u64(progress.position, count as u64),
@@ -140,12 +184,16 @@ fn passed(progress: Progress, count: usize) -> Progress {
 
 // A message. What waits is written out where it is much, so that a message's text always has room behind it: of 255 rows none takes 250 bytes.
 fn given(
+    rt: &HostRuntime,
     progress: Progress,
     message: &[u8],
     text: &mut [u8],
     history: &mut [u64; history::WORDS],
     list: &mut [u64],
-) -> Progress {
+) -> Progress
+    requires { IsEnd progress.status }
+    ensures { IsEnd result.status }
+{
     let waiting = put_message(progress, message, text, history, list);
     let next = Progress {
         messages: wrapping_add_u64(progress.messages, 1),
@@ -155,7 +203,7 @@ fn given(
         ..progress
     };
     if waiting > 65536 {
-        return written(next, text);
+        return written(rt, next, text);
     }
     next
 }
@@ -173,51 +221,70 @@ fn put_last(progress: Progress, text: &mut [u8]) -> usize {
 }
 
 // The end: the last line, and all that waits.
-fn ended(progress: Progress, text: &mut [u8]) -> Progress {
-    let all = put_last(progress, text);
-    write_out(text, all);
+fn ended(rt: &HostRuntime, progress: Progress, text: &mut [u8]) -> Progress
+    requires { IsEnd progress.status }
+    ensures { IsEnd result.status }
+{
+    let waiting = put_last(progress, text);
+    let last = written(
+        rt,
+        Progress {
+            waiting,
+            ..progress
+        },
+        text,
+    );
     Progress {
         going: false,
-        ..progress
+        ..last
     }
 }
 
 // The next block. What waits is written out before it, since a live line may keep a read waiting for as long as it likes.
-fn more(progress: Progress, buffer: &mut [u8], text: &[u8]) -> Progress {
-    let next = written(progress, text);
+fn more(rt: &HostRuntime, progress: Progress, buffer: &mut [u8], text: &[u8]) -> Progress
+    requires { IsEnd progress.status }
+    ensures { IsEnd result.status }
+{
+    let next = written(rt, progress, text);
     if next.going {
-        return read_on(next, buffer);
+        return read_on(rt, next, buffer);
     }
     next
 }
 
 // The next message of the buffer; or what is not settled yet, and the next block behind it; or the end.
 fn turn(
+    rt: &HostRuntime,
     progress: Progress,
     buffer: &mut [u8],
     text: &mut [u8],
     history: &mut [u64; history::WORDS],
     list: &mut [u64],
-) -> Progress {
+) -> Progress
+    requires { IsEnd progress.status }
+    ensures { IsEnd result.status }
+{
     let rest = part(buffer, progress.from, progress.end);
     let passage = division::walk(progress.over, rest);
     let walked = passage.walked;
     match walked {
         Walked::Message(at, length, _) => {
             let message = part(rest, at, wrapping_add_usize(at, length));
-            given(passed(progress, at), message, text, history, list)
+            given(rt, passed(progress, at), message, text, history, list)
         }
         Walked::Unsettled(at) => {
             if progress.over {
-                return ended(passed(progress, at), text);
+                return ended(rt, passed(progress, at), text);
             }
-            more(passed(progress, at), buffer, text)
+            more(rt, passed(progress, at), buffer, text)
         }
     }
 }
 
 // Turn after turn until there is no more to do. An input has an end, though nothing says so: the turns are counted up to a number that no run reaches.
-fn print_recording(printed: Printed, heading: &[u8]) {
+fn print_recording(rt: &HostRuntime, printed: Printed, heading: &[u8]) -> u8
+    ensures { IsEnd result }
+{
     let mut buffer = [0u8; 131072];
     let mut text = [0u8; 131072];
     let mut history = [0u64; history::WORDS];
@@ -234,82 +301,123 @@ fn print_recording(printed: Printed, heading: &[u8]) {
         end: 0,
         over: false,
         waiting: text::put_all(&mut text, 0, heading),
+        status: WELL,
         going: true,
     };
     for _ in 0..u64::MAX {
-        progress = turn(progress, &mut buffer, &mut text, &mut history, &mut list);
+        progress = turn(
+            rt,
+            progress,
+            &mut buffer,
+            &mut text,
+            &mut history,
+            &mut list,
+        );
         if !progress.going {
-            return;
+            return progress.status;
         }
     }
+    progress.status
 }
 
 // The listing of document 01.
-pub fn listing()
-    ensures { result ≡ tt }
+pub fn listing(rt: &HostRuntime) -> u8
+    ensures { IsEnd result }
 {
-    print_recording(Printed::Listing, b"at bytes form obs time\n");
+    print_recording(rt, Printed::Listing, b"at bytes form obs time\n")
 }
 
 // The rows for the people who compute the track.
-pub fn rows()
-    ensures { result ≡ tt }
+pub fn rows(rt: &HostRuntime) -> u8
+    ensures { IsEnd result }
 {
     let heading = b"at time form type sid cn0 condition range phase bits polarity rate lock\n";
-    print_recording(Printed::Rows, heading);
+    print_recording(rt, Printed::Rows, heading)
 }
 
 // The word that a program is started with, and nothing else, as a number: one of more than 64 bytes is none.
-fn started_with() -> Small {
-    if os::arg_count() != 2 {
-        return Small::Other;
-    }
+fn started_with(rt: &HostRuntime) -> Small {
     let mut word = [0u8; 64];
-    let length = os::arg(1, &mut word);
-    argument::small_number(text::front(&word, length))
+    match rt.arg(1, &mut word) {
+        Ok(length) => {
+            if goes_on(rt) {
+                return Small::Other;
+            }
+            argument::small_number(text::front(&word, length))
+        }
+        Err(_) => Small::Other,
+    }
+}
+
+// Whether there is a word behind that one.
+fn goes_on(rt: &HostRuntime) -> bool {
+    let mut word = [0u8; 1];
+    !matches!(rt.arg(2, &mut word), Err(FillError::NotPresent))
 }
 
 // The breaks of lock in the messages of the TYPE that the program is started with.
-pub fn breaks()
-    ensures { result ≡ tt }
+pub fn breaks(rt: &HostRuntime) -> u8
+    ensures { IsEnd result }
 {
-    match started_with() {
-        Small::Number(signal) => print_recording(Printed::Breaks(signal), b"at sid time break\n"),
+    match started_with(rt) {
+        Small::Number(signal) => {
+            print_recording(rt, Printed::Breaks(signal), b"at sid time break\n")
+        }
         Small::Other => {
-            let line = b"error: the argument has to be a TYPE, 0 to 255 in decimal digits\n";
-            io::write_all(libc::STDERR_FILENO, line);
+            failure::say_line(
+                rt,
+                "error: the argument has to be a TYPE, 0 to 255 in decimal digits",
+            );
+            FAILED
         }
     }
 }
 
 // ---- the account
 
-// Reads until the buffer is full or the input ends: how many bytes there are.
-fn fill(buffer: &mut [u8]) -> usize {
+// A recording read into a buffer: how many bytes there are, and how it ends as it stands.
+#[derive(Clone, Copy)]
+struct Filled {
+    count: usize,
+    status: u8,
+}
+
+// Reads until the buffer is full or the input ends.
+fn fill(rt: &HostRuntime, buffer: &mut [u8]) -> Filled
+    ensures { IsEnd result.status }
+{
     let mut count = 0;
     for _ in 0..buffer.len() {
-        let got = read_behind(buffer, count);
-        if got == 0 {
-            return count;
+        match blocks::read_behind(&mut rt.stdin(), buffer, count) {
+            Ok(0) => break,
+            Ok(got) => count = wrapping_add_usize(count, got),
+            Err(error) => {
+                let status = failed(rt, "standard input", &error);
+                return Filled { count, status };
+            }
         }
-        count = wrapping_add_usize(count, got);
     }
-    count
+    Filled {
+        count,
+        status: WELL,
+    }
 }
 
 // One byte more than fits is read, to see whether the recording is longer.
-fn print_reasons(recording: &mut [u8], text: &mut [u8]) {
-    let count = fill(recording);
-    let waiting = account::put_report(text, 0, part(recording, 0, count));
-    write_out(text, waiting);
+fn print_reasons(rt: &HostRuntime, recording: &mut [u8], text: &mut [u8]) -> u8
+    ensures { IsEnd result }
+{
+    let filled = fill(rt, recording);
+    let waiting = account::put_report(text, 0, part(recording, 0, filled.count));
+    first_of(filled.status, write_out(rt, text, waiting))
 }
 
 // Why each position of a short recording is or is not the first of a message. The text has room for 20 bytes a line and the heading, which no recording
 // needs more of (promises/proofs/Room.antt).
-pub fn reasons()
-    ensures { result ≡ tt }
+pub fn reasons(rt: &HostRuntime) -> u8
+    ensures { IsEnd result }
 {
-    let mut recording = [0u8; 61441];
-    let mut text = [0u8; 1228816];
-    print_reasons(&mut recording, &mut text);
+    let mut recording = Block::<61441>::new();
+    let mut text = Block::<1228816>::new();
+    print_reasons(rt, recording.bytes(), text.bytes())
 }

@@ -1,4 +1,8 @@
 // The rows of a recording, for the people who compute the track: standard input in, a line an observation out.
-fn main() {
-    report::rows();
+#![tactic(auto)]
+
+use std::process::ExitCode;
+
+fn main(rt: HostRuntime) -> ExitCode {
+    ExitCode::from(report::rows(&rt))
 }

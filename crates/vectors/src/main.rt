@@ -1,8 +1,13 @@
 // The messages that 264-21 and 264-04 publish and the range record of APN-031, and the lines of document 01's sample table that are to be run, through the
 // library: what it reads of them is printed, and held to what the second reader prints.
+#![tactic(auto)]
+
 use division::Next;
 use macm::Verdict;
 use novatel::{Correction, Reading, Record};
+use std::fs;
+use std::io::{Read, Write};
+use std::process::ExitCode;
 use stream::{Answer, Reply};
 
 // ---- lines
@@ -80,30 +85,40 @@ fn put_reply(text: &mut [u8], at: usize, reply: Reply, output: &[u8]) -> usize {
 // ---- the published messages
 
 // A file of data/: how many bytes it has, or 0 and the reason why it cannot be read.
-fn load(name: &[u8], recording: &mut [u8]) -> usize {
-    let file = os::open_read(name);
-    if file < 0 {
-        io::write_all(libc::STDERR_FILENO, b"error: ");
-        os::fail(name);
-        return 0;
+fn load(rt: &HostRuntime, name: &str, recording: &mut [u8]) -> usize {
+    match fs::open(rt, name) {
+        Ok(mut file) => read_full(&mut file, recording),
+        Err(error) => {
+            report::failed(rt, name, &error);
+            0
+        }
     }
-    let length = io::read_full(file, recording);
-    libc::close(file);
-    length
 }
 
-fn put_published(text: &mut [u8], at: usize, name: &[u8]) -> usize {
+// Reads until the buffer is full, the input ends or a read fails: how many bytes there are.
+fn read_full<R: Read>(reader: &mut R, buffer: &mut [u8]) -> usize {
+    let mut count = 0;
+    for _ in 0..buffer.len() {
+        match reader.read(&mut buffer[count..]) {
+            Ok(0) | Err(_) => break,
+            Ok(got) => count += got,
+        }
+    }
+    count
+}
+
+fn put_published(rt: &HostRuntime, text: &mut [u8], at: usize, name: &str) -> usize {
     let mut recording = [0u8; 1024];
-    let length = load(name, &mut recording);
-    let next = text::put_all(text, at, name);
+    let length = load(rt, name, &mut recording);
+    let next = text::put_all(text, at, name.as_bytes());
     let next = text::put(text, next, b'\n');
     put_recording(text, next, text::front(&recording, length))
 }
 
 // Where 264-04 has its two messages: the check of each, as it is printed.
-fn put_printed_checks(text: &mut [u8], at: usize) -> usize {
+fn put_printed_checks(rt: &HostRuntime, text: &mut [u8], at: usize) -> usize {
     let mut recording = [0u8; 1024];
-    load(b"264-04-table-4.bin", &mut recording);
+    load(rt, "264-04-table-4.bin", &mut recording);
     let next = put_check(text, at, &recording[25..184]);
     put_check(text, next, &recording[253..412])
 }
@@ -176,10 +191,10 @@ fn put_reading(text: &mut [u8], at: usize, bytes: &[u8]) -> usize {
 }
 
 // The record that APN-031 publishes, and its corrected ADR.
-fn put_record(text: &mut [u8], at: usize, name: &[u8]) -> usize {
+fn put_record(rt: &HostRuntime, text: &mut [u8], at: usize, name: &str) -> usize {
     let mut bytes = [0u8; 24];
-    load(name, &mut bytes);
-    let next = text::put_all(text, at, name);
+    load(rt, name, &mut bytes);
+    let next = text::put_all(text, at, name.as_bytes());
     let next = text::put(text, next, b'\n');
     let next = put_reading(text, next, &bytes);
     put_correction(text, next, &bytes)
@@ -220,12 +235,12 @@ fn put_halves(text: &mut [u8], at: usize) -> usize {
     put_rolls(text, next, 0, -1073741823)
 }
 
-fn main() {
+fn main(rt: HostRuntime) -> ExitCode {
     let mut text = [0u8; 16384];
-    let at = put_published(&mut text, 0, b"264-21-figure-1.bin");
-    let at = put_published(&mut text, at, b"264-04-table-4.bin");
-    let at = put_printed_checks(&mut text, at);
-    let at = put_published(&mut text, at, b"264-04-table-4-by-the-rule.bin");
+    let at = put_published(&rt, &mut text, 0, "264-21-figure-1.bin");
+    let at = put_published(&rt, &mut text, at, "264-04-table-4.bin");
+    let at = put_printed_checks(&rt, &mut text, at);
+    let at = put_published(&rt, &mut text, at, "264-04-table-4-by-the-rule.bin");
     let at = put_ranges(&mut text, at);
     let at = text::put_all(&mut text, at, b"A then B\n");
     let both =
@@ -233,9 +248,12 @@ fn main() {
     let at = put_recording(&mut text, at, both);
     let at = text::put_all(&mut text, at, b"S12\n");
     let at = put_calls(&mut text, at);
-    let at = put_record(&mut text, at, b"apn-031-rangecmp.bin");
+    let at = put_record(&rt, &mut text, at, "apn-031-rangecmp.bin");
     let at = text::put_all(&mut text, at, b"rolls and corrected\n");
     let at = put_far(&mut text, at);
     let at = put_halves(&mut text, at);
-    io::write_all(libc::STDOUT_FILENO, text::front(&text, at));
+    match rt.stdout().write_all(text::front(&text, at)) {
+        Ok(()) => ExitCode::SUCCESS,
+        Err(_) => ExitCode::FAILURE,
+    }
 }

@@ -1,4 +1,8 @@
 // Why each byte of a short recording is or is not the first of a message: standard input in, a line a position out.
-fn main() {
-    report::reasons();
+#![tactic(auto)]
+
+use std::process::ExitCode;
+
+fn main(rt: HostRuntime) -> ExitCode {
+    ExitCode::from(report::reasons(&rt))
 }

@@ -1,0 +1,6 @@
+-- What was read fits.
+use Rattle.std.proofs.Common.{◌≤◌, length}
+use Rattle.vectors.proofs.read_full.Given as goal
+
+abbrev pub invariant-loop : goal.invariant-loop
+invariant-loop g l = l.count ≤ length l.buffer
