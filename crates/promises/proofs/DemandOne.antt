@@ -29,24 +29,43 @@ use Rattle.owed.specs.Meets.{AsksNothing}
 use Rattle.promises.specs.Numbers.{head_number, observed_number, breaks_number, next_number, reason_number, record_number, correction_number, answer_number, Refuses, Unchanged, UnchangedHistory, CheckTable, ClaimedTable, HeadTable, IndexTable, KnownTable, StartTable, ConvertTable, BreaksTable, ClaimedBreaksTable, NextTable, ReasonTable, FinishTable, FeedTable, RecordTable, CorrectionTable, RecordWriteTable}
 use Rattle.promises.proofs.Numbers as numbers
 use Rattle.promises.proofs.Unchanged as unchanged
+use Rattle.octets.specs.contracts as octets_contracts
 use Rattle.octets.proofs as octets
+use Rattle.bits.specs.contracts as bits_contracts
 use Rattle.bits.proofs as bits
+use Rattle.units.specs.contracts as units_contracts
 use Rattle.units.proofs as units
+use Rattle.refusal.specs.contracts as refusal_contracts
 use Rattle.refusal.proofs as refusals
+use Rattle.macm.specs.contracts as macm_contracts
 use Rattle.macm.proofs as macm
+use Rattle.novatel.specs.contracts as novatel_contracts
 use Rattle.novatel.proofs as novatel
+use Rattle.compose.specs.contracts as compose_contracts
 use Rattle.compose.proofs as compose
+use Rattle.track.specs.contracts as track_contracts
 use Rattle.track.proofs as track
+use Rattle.history.specs.contracts as history_contracts
 use Rattle.history.proofs as history
+use Rattle.argument.specs.contracts as argument_contracts
 use Rattle.argument.proofs as argument
+use Rattle.front.specs.contracts as front_contracts
 use Rattle.front.proofs as front
+use Rattle.division.specs.contracts as division_contracts
 use Rattle.division.proofs as division
+use Rattle.stream.specs.contracts as stream_contracts
 use Rattle.stream.proofs as stream
+use Rattle.reason.specs.contracts as reason_contracts
 use Rattle.reason.proofs as reason
+use Rattle.account.specs.contracts as account_contracts
 use Rattle.account.proofs as account
+use Rattle.words.specs.contracts as words_contracts
 use Rattle.words.proofs as words
+use Rattle.text.specs.contracts as text_contracts
 use Rattle.text.proofs as text
+use Rattle.lines.specs.contracts as lines_contracts
 use Rattle.lines.proofs as lines
+use Rattle.board.specs.contracts as board_contracts
 use Rattle.board.proofs as board
 
 -- ---- it refuses by the numbers of 01 and 02: each under its condition, in the order of the tests, and 0 where none holds (promises/specs/Numbers.antt)
@@ -135,163 +154,165 @@ finish_refused s w o = unchanged.finish_unchanged s w o
 
 -- ---- it takes all inputs, so nobody has to check first: what an entry asks, which the checker makes of its `requires`, always holds
 pub reading_asks_nothing :
-    AsksNothing macm.check.ended macm.check.Reads.Asked
-    × AsksNothing macm.read_header.ended macm.read_header.Reads.Asked
-    × AsksNothing macm.read_observation.ended macm.read_observation.Reads.Asked
-    × AsksNothing macm.claimed_header.ended macm.claimed_header.Reads.Asked
-    × AsksNothing macm.observation_as.ended macm.observation_as.Reads.Asked
-    × AsksNothing division.next_message.ended division.next_message.Reads.Asked
-    × AsksNothing division.message_part.ended division.message_part.Reads.Asked
-    × AsksNothing reason.reason_at.ended reason.reason_at.Reads.Asked
+    AsksNothing macm_contracts.check.ended macm.check.Reads.Asked
+    × AsksNothing macm_contracts.read_header.ended macm.read_header.Reads.Asked
+    × AsksNothing macm_contracts.read_observation.ended macm.read_observation.Reads.Asked
+    × AsksNothing macm_contracts.claimed_header.ended macm.claimed_header.Reads.Asked
+    × AsksNothing macm_contracts.observation_as.ended macm.observation_as.Reads.Asked
+    × AsksNothing division_contracts.next_message.ended division.next_message.Reads.Asked
+    × AsksNothing division_contracts.message_part.ended division.message_part.Reads.Asked
+    × AsksNothing reason_contracts.reason_at.ended reason.reason_at.Reads.Asked
 reading_asks_nothing = ((λ κs a. tt), (λ κs a. tt), (λ κs a. tt), (λ κs a. tt), (λ κs a. tt), (λ κs a. tt), (λ κs a. tt), (λ κs a. tt))
 
 pub writing_asks_nothing :
-    AsksNothing compose.start.ended compose.start.Reads.Asked
-    × AsksNothing compose.set.ended compose.set.Reads.Asked
-    × AsksNothing compose.to_new.ended compose.to_new.Reads.Asked
-    × AsksNothing compose.to_old.ended compose.to_old.Reads.Asked
+    AsksNothing compose_contracts.start.ended compose.start.Reads.Asked
+    × AsksNothing compose_contracts.set.ended compose.set.Reads.Asked
+    × AsksNothing compose_contracts.to_new.ended compose.to_new.Reads.Asked
+    × AsksNothing compose_contracts.to_old.ended compose.to_old.Reads.Asked
 writing_asks_nothing = ((λ κs a. tt), (λ κs a. tt), (λ κs a. tt), (λ κs a. tt))
 
 pub streaming_asks_nothing :
-    AsksNothing stream.fresh.ended stream.fresh.Reads.Asked
-    × AsksNothing stream.feed.ended stream.feed.Reads.Asked
-    × AsksNothing stream.finish.ended stream.finish.Reads.Asked
+    AsksNothing stream_contracts.fresh.ended stream.fresh.Reads.Asked
+    × AsksNothing stream_contracts.feed.ended stream.feed.Reads.Asked
+    × AsksNothing stream_contracts.finish.ended stream.finish.Reads.Asked
 streaming_asks_nothing = ((λ κs a. tt), (λ κs a. tt), (λ κs a. tt))
 
 pub track_asks_nothing :
-    AsksNothing track.range_of.ended track.range_of.Reads.Asked
-    × AsksNothing track.plot_row.ended track.plot_row.Reads.Asked
-    × AsksNothing track.phase_of.ended track.phase_of.Reads.Asked
-    × AsksNothing track.offset_of.ended track.offset_of.Reads.Asked
-    × AsksNothing track.condition_of.ended track.condition_of.Reads.Asked
+    AsksNothing track_contracts.range_of.ended track.range_of.Reads.Asked
+    × AsksNothing track_contracts.plot_row.ended track.plot_row.Reads.Asked
+    × AsksNothing track_contracts.phase_of.ended track.phase_of.Reads.Asked
+    × AsksNothing track_contracts.offset_of.ended track.offset_of.Reads.Asked
+    × AsksNothing track_contracts.condition_of.ended track.condition_of.Reads.Asked
 track_asks_nothing = ((λ κs a. tt), (λ κs a. tt), (λ κs a. tt), (λ κs a. tt), (λ κs a. tt))
 
 pub histories_ask_nothing :
-    AsksNothing history.fresh.ended history.fresh.Reads.Asked
-    × AsksNothing history.next_breaks.ended history.next_breaks.Reads.Asked
-    × AsksNothing history.claimed_breaks.ended history.claimed_breaks.Reads.Asked
+    AsksNothing history_contracts.fresh.ended history.fresh.Reads.Asked
+    × AsksNothing history_contracts.next_breaks.ended history.next_breaks.Reads.Asked
+    × AsksNothing history_contracts.claimed_breaks.ended history.claimed_breaks.Reads.Asked
 histories_ask_nothing = ((λ κs a. tt), (λ κs a. tt), (λ κs a. tt))
 
 pub records_ask_nothing :
-    AsksNothing novatel.read_record.ended novatel.read_record.Reads.Asked
-    × AsksNothing novatel.write_record.ended novatel.write_record.Reads.Asked
-    × AsksNothing novatel.corrected_adr.ended novatel.corrected_adr.Reads.Asked
-    × AsksNothing novatel.deviation_of_range.ended novatel.deviation_of_range.Reads.Asked
-    × AsksNothing novatel.deviation_of_adr.ended novatel.deviation_of_adr.Reads.Asked
+    AsksNothing novatel_contracts.read_record.ended novatel.read_record.Reads.Asked
+    × AsksNothing novatel_contracts.write_record.ended novatel.write_record.Reads.Asked
+    × AsksNothing novatel_contracts.corrected_adr.ended novatel.corrected_adr.Reads.Asked
+    × AsksNothing novatel_contracts.deviation_of_range.ended novatel.deviation_of_range.Reads.Asked
+    × AsksNothing novatel_contracts.deviation_of_adr.ended novatel.deviation_of_adr.Reads.Asked
 records_ask_nothing = ((λ κs a. tt), (λ κs a. tt), (λ κs a. tt), (λ κs a. tt), (λ κs a. tt))
 
 pub board_asks_nothing :
-    AsksNothing board.cs_check.ended board.cs_check.Reads.Asked
-    × AsksNothing board.cs_read_header.ended board.cs_read_header.Reads.Asked
-    × AsksNothing board.cs_read_observation.ended board.cs_read_observation.Reads.Asked
-    × AsksNothing board.cs_start.ended board.cs_start.Reads.Asked
-    × AsksNothing board.cs_set.ended board.cs_set.Reads.Asked
-    × AsksNothing board.cs_to_new.ended board.cs_to_new.Reads.Asked
-    × AsksNothing board.cs_to_old.ended board.cs_to_old.Reads.Asked
-    × AsksNothing board.cs_next.ended board.cs_next.Reads.Asked
-    × AsksNothing board.cs_why.ended board.cs_why.Reads.Asked
-    × AsksNothing board.cs_fresh.ended board.cs_fresh.Reads.Asked
-    × AsksNothing board.cs_breaks_fresh.ended board.cs_breaks_fresh.Reads.Asked
-    × AsksNothing board.cs_breaks.ended board.cs_breaks.Reads.Asked
-    × AsksNothing board.cs_range_um.ended board.cs_range_um.Reads.Asked
-    × AsksNothing board.cs_lock_ms.ended board.cs_lock_ms.Reads.Asked
-    × AsksNothing board.cs_phase.ended board.cs_phase.Reads.Asked
-    × AsksNothing board.cs_plot_row.ended board.cs_plot_row.Reads.Asked
-    × AsksNothing board.cs_rangecmp_read.ended board.cs_rangecmp_read.Reads.Asked
-    × AsksNothing board.cs_rangecmp_write.ended board.cs_rangecmp_write.Reads.Asked
-    × AsksNothing board.cs_rangecmp_adr.ended board.cs_rangecmp_adr.Reads.Asked
-    × AsksNothing board.cs_rangecmp_range_mm.ended board.cs_rangecmp_range_mm.Reads.Asked
-    × AsksNothing board.cs_rangecmp_adr_512ths.ended board.cs_rangecmp_adr_512ths.Reads.Asked
+    AsksNothing board_contracts.cs_check.ended board.cs_check.Reads.Asked
+    × AsksNothing board_contracts.cs_read_header.ended board.cs_read_header.Reads.Asked
+    × AsksNothing board_contracts.cs_read_observation.ended board.cs_read_observation.Reads.Asked
+    × AsksNothing board_contracts.cs_start.ended board.cs_start.Reads.Asked
+    × AsksNothing board_contracts.cs_set.ended board.cs_set.Reads.Asked
+    × AsksNothing board_contracts.cs_to_new.ended board.cs_to_new.Reads.Asked
+    × AsksNothing board_contracts.cs_to_old.ended board.cs_to_old.Reads.Asked
+    × AsksNothing board_contracts.cs_next.ended board.cs_next.Reads.Asked
+    × AsksNothing board_contracts.cs_why.ended board.cs_why.Reads.Asked
+    × AsksNothing board_contracts.cs_fresh.ended board.cs_fresh.Reads.Asked
+    × AsksNothing board_contracts.cs_feed.ended board.cs_feed.Reads.Asked
+    × AsksNothing board_contracts.cs_finish.ended board.cs_finish.Reads.Asked
+    × AsksNothing board_contracts.cs_breaks_fresh.ended board.cs_breaks_fresh.Reads.Asked
+    × AsksNothing board_contracts.cs_breaks.ended board.cs_breaks.Reads.Asked
+    × AsksNothing board_contracts.cs_range_um.ended board.cs_range_um.Reads.Asked
+    × AsksNothing board_contracts.cs_lock_ms.ended board.cs_lock_ms.Reads.Asked
+    × AsksNothing board_contracts.cs_phase.ended board.cs_phase.Reads.Asked
+    × AsksNothing board_contracts.cs_plot_row.ended board.cs_plot_row.Reads.Asked
+    × AsksNothing board_contracts.cs_rangecmp_read.ended board.cs_rangecmp_read.Reads.Asked
+    × AsksNothing board_contracts.cs_rangecmp_write.ended board.cs_rangecmp_write.Reads.Asked
+    × AsksNothing board_contracts.cs_rangecmp_adr.ended board.cs_rangecmp_adr.Reads.Asked
+    × AsksNothing board_contracts.cs_rangecmp_range_mm.ended board.cs_rangecmp_range_mm.Reads.Asked
+    × AsksNothing board_contracts.cs_rangecmp_adr_512ths.ended board.cs_rangecmp_adr_512ths.Reads.Asked
 board_asks_nothing =
-    ((λ κs a. tt), (λ κs a. tt), (λ κs a. tt), (λ κs a. tt), (λ κs a. tt), (λ κs a. tt), (λ κs a. tt), (λ κs a. tt), (λ κs a. tt), (λ κs a. tt), (λ κs a. tt), (λ κs a. tt), (λ κs a. tt), (λ κs a. tt), (λ κs a. tt), (λ κs a. tt), (λ κs a. tt), (λ κs a. tt), (λ κs a. tt), (λ κs a. tt), (λ κs a. tt))
+    ((λ κs a. tt), (λ κs a. tt), (λ κs a. tt), (λ κs a. tt), (λ κs a. tt), (λ κs a. tt), (λ κs a. tt), (λ κs a. tt), (λ κs a. tt), (λ κs a. tt), (λ κs a. tt), (λ κs a. tt), (λ κs a. tt), (λ κs a. tt), (λ κs a. tt), (λ κs a. tt), (λ κs a. tt), (λ κs a. tt), (λ κs a. tt), (λ κs a. tt), (λ κs a. tt), (λ κs a. tt), (λ κs a. tt))
 
 -- and the parts that the entries are made of
 pub bytes_ask_nothing :
-    AsksNothing octets.checksum.ended octets.checksum.Reads.Asked
-    × AsksNothing octets.common_to.ended octets.common_to.Reads.Asked
-    × AsksNothing octets.fits.ended octets.fits.Reads.Asked
-    × AsksNothing octets.starts.ended octets.starts.Reads.Asked
-    × AsksNothing octets.number_of.ended octets.number_of.Reads.Asked
-    × AsksNothing octets.put_number.ended octets.put_number.Reads.Asked
-    × AsksNothing octets.signed_in.ended octets.signed_in.Reads.Asked
-    × AsksNothing octets.raw_in.ended octets.raw_in.Reads.Asked
-    × AsksNothing octets.holds_signed.ended octets.holds_signed.Reads.Asked
-    × AsksNothing octets.signed_of.ended octets.signed_of.Reads.Asked
-    × AsksNothing octets.raw_of.ended octets.raw_of.Reads.Asked
-    × AsksNothing octets.clear.ended octets.clear.Reads.Asked
-    × AsksNothing octets.copy.ended octets.copy.Reads.Asked
+    AsksNothing octets_contracts.checksum.ended octets.checksum.Reads.Asked
+    × AsksNothing octets_contracts.common_to.ended octets.common_to.Reads.Asked
+    × AsksNothing octets_contracts.fits.ended octets.fits.Reads.Asked
+    × AsksNothing octets_contracts.starts.ended octets.starts.Reads.Asked
+    × AsksNothing octets_contracts.number_of.ended octets.number_of.Reads.Asked
+    × AsksNothing octets_contracts.put_number.ended octets.put_number.Reads.Asked
+    × AsksNothing octets_contracts.signed_in.ended octets.signed_in.Reads.Asked
+    × AsksNothing octets_contracts.raw_in.ended octets.raw_in.Reads.Asked
+    × AsksNothing octets_contracts.holds_signed.ended octets.holds_signed.Reads.Asked
+    × AsksNothing octets_contracts.signed_of.ended octets.signed_of.Reads.Asked
+    × AsksNothing octets_contracts.raw_of.ended octets.raw_of.Reads.Asked
+    × AsksNothing octets_contracts.clear.ended octets.clear.Reads.Asked
+    × AsksNothing octets_contracts.copy.ended octets.copy.Reads.Asked
 bytes_ask_nothing = ((λ κs a. tt), (λ κs a. tt), (λ κs a. tt), (λ κs a. tt), (λ κs a. tt), (λ κs a. tt), (λ κs a. tt), (λ κs a. tt), (λ κs a. tt), (λ κs a. tt), (λ κs a. tt), (λ κs a. tt), (λ κs a. tt))
 
 pub fields_ask_nothing :
-    AsksNothing bits.field.ended bits.field.Reads.Asked
-    × AsksNothing bits.put_field.ended bits.put_field.Reads.Asked
-    × AsksNothing bits.signed_field.ended bits.signed_field.Reads.Asked
-    × AsksNothing bits.put_signed_field.ended bits.put_signed_field.Reads.Asked
-    × AsksNothing bits.holds.ended bits.holds.Reads.Asked
+    AsksNothing bits_contracts.field.ended bits.field.Reads.Asked
+    × AsksNothing bits_contracts.put_field.ended bits.put_field.Reads.Asked
+    × AsksNothing bits_contracts.signed_field.ended bits.signed_field.Reads.Asked
+    × AsksNothing bits_contracts.put_signed_field.ended bits.put_signed_field.Reads.Asked
+    × AsksNothing bits_contracts.holds.ended bits.holds.Reads.Asked
 fields_ask_nothing = ((λ κs a. tt), (λ κs a. tt), (λ κs a. tt), (λ κs a. tt), (λ κs a. tt))
 
 pub units_ask_nothing :
-    AsksNothing units.LockCount.from_count.ended units.LockCount.from_count.Reads.Asked
-    × AsksNothing units.LockCount.count.ended units.LockCount.count.Reads.Asked
-    × AsksNothing units.Millis.from_number.ended units.Millis.from_number.Reads.Asked
-    × AsksNothing units.Millis.number.ended units.Millis.number.Reads.Asked
-    × AsksNothing units.since_lock.ended units.since_lock.Reads.Asked
-    × AsksNothing units.plus.ended units.plus.Reads.Asked
+    AsksNothing units_contracts.LockCount.from_count.ended units.LockCount.from_count.Reads.Asked
+    × AsksNothing units_contracts.LockCount.count.ended units.LockCount.count.Reads.Asked
+    × AsksNothing units_contracts.Millis.from_number.ended units.Millis.from_number.Reads.Asked
+    × AsksNothing units_contracts.Millis.number.ended units.Millis.number.Reads.Asked
+    × AsksNothing units_contracts.since_lock.ended units.since_lock.Reads.Asked
+    × AsksNothing units_contracts.plus.ended units.plus.Reads.Asked
 units_ask_nothing = ((λ κs a. tt), (λ κs a. tt), (λ κs a. tt), (λ κs a. tt), (λ κs a. tt), (λ κs a. tt))
 
 pub parts_ask_nothing :
-    AsksNothing refusals.number.ended refusals.number.Reads.Asked
-    × AsksNothing macm.count_at.ended macm.count_at.Reads.Asked
-    × AsksNothing macm.size_of.ended macm.size_of.Reads.Asked
-    × AsksNothing macm.agreeing.ended macm.agreeing.Reads.Asked
-    × AsksNothing front.claims.ended front.claims.Reads.Asked
-    × AsksNothing division.walk.ended division.walk.Reads.Asked
-    × AsksNothing reason.reason_here.ended reason.reason_here.Reads.Asked
+    AsksNothing refusal_contracts.number.ended refusals.number.Reads.Asked
+    × AsksNothing macm_contracts.count_at.ended macm.count_at.Reads.Asked
+    × AsksNothing macm_contracts.size_of.ended macm.size_of.Reads.Asked
+    × AsksNothing macm_contracts.agreeing.ended macm.agreeing.Reads.Asked
+    × AsksNothing front_contracts.claims.ended front.claims.Reads.Asked
+    × AsksNothing division_contracts.walk.ended division.walk.Reads.Asked
+    × AsksNothing reason_contracts.reason_here.ended reason.reason_here.Reads.Asked
 parts_ask_nothing = ((λ κs a. tt), (λ κs a. tt), (λ κs a. tt), (λ κs a. tt), (λ κs a. tt), (λ κs a. tt), (λ κs a. tt))
 
 pub words_ask_nothing :
-    AsksNothing words.form_in.ended words.form_in.Reads.Asked
-    × AsksNothing words.header_in.ended words.header_in.Reads.Asked
-    × AsksNothing words.observation_in.ended words.observation_in.Reads.Asked
-    × AsksNothing words.head_words.ended words.head_words.Reads.Asked
-    × AsksNothing words.observed_words.ended words.observed_words.Reads.Asked
-    × AsksNothing words.written_words.ended words.written_words.Reads.Asked
-    × AsksNothing words.listed_words.ended words.listed_words.Reads.Asked
-    × AsksNothing words.found_words.ended words.found_words.Reads.Asked
-    × AsksNothing words.reason_words.ended words.reason_words.Reads.Asked
-    × AsksNothing words.answer_words.ended words.answer_words.Reads.Asked
-    × AsksNothing words.phase_words.ended words.phase_words.Reads.Asked
-    × AsksNothing words.record_in.ended words.record_in.Reads.Asked
-    × AsksNothing words.record_words.ended words.record_words.Reads.Asked
-    × AsksNothing words.adr_words.ended words.adr_words.Reads.Asked
+    AsksNothing words_contracts.form_in.ended words.form_in.Reads.Asked
+    × AsksNothing words_contracts.header_in.ended words.header_in.Reads.Asked
+    × AsksNothing words_contracts.observation_in.ended words.observation_in.Reads.Asked
+    × AsksNothing words_contracts.head_words.ended words.head_words.Reads.Asked
+    × AsksNothing words_contracts.observed_words.ended words.observed_words.Reads.Asked
+    × AsksNothing words_contracts.written_words.ended words.written_words.Reads.Asked
+    × AsksNothing words_contracts.listed_words.ended words.listed_words.Reads.Asked
+    × AsksNothing words_contracts.found_words.ended words.found_words.Reads.Asked
+    × AsksNothing words_contracts.reason_words.ended words.reason_words.Reads.Asked
+    × AsksNothing words_contracts.answer_words.ended words.answer_words.Reads.Asked
+    × AsksNothing words_contracts.phase_words.ended words.phase_words.Reads.Asked
+    × AsksNothing words_contracts.record_in.ended words.record_in.Reads.Asked
+    × AsksNothing words_contracts.record_words.ended words.record_words.Reads.Asked
+    × AsksNothing words_contracts.adr_words.ended words.adr_words.Reads.Asked
 words_ask_nothing =
     ((λ κs a. tt), (λ κs a. tt), (λ κs a. tt), (λ κs a. tt), (λ κs a. tt), (λ κs a. tt), (λ κs a. tt), (λ κs a. tt), (λ κs a. tt), (λ κs a. tt), (λ κs a. tt), (λ κs a. tt), (λ κs a. tt), (λ κs a. tt))
 
 pub text_asks_nothing :
-    AsksNothing text.put.ended text.put.Reads.Asked
-    × AsksNothing text.put_all.ended text.put_all.Reads.Asked
-    × AsksNothing text.front.ended text.front.Reads.Asked
-    × AsksNothing text.put_decimal.ended text.put_decimal.Reads.Asked
-    × AsksNothing text.put_hex.ended text.put_hex.Reads.Asked
-    × AsksNothing text.put_number.ended text.put_number.Reads.Asked
-    × AsksNothing text.put_long.ended text.put_long.Reads.Asked
-    × AsksNothing text.put_short.ended text.put_short.Reads.Asked
-    × AsksNothing text.put_count.ended text.put_count.Reads.Asked
-    × AsksNothing text.put_metres.ended text.put_metres.Reads.Asked
-    × AsksNothing text.put_hertz.ended text.put_hertz.Reads.Asked
-    × AsksNothing text.put_cycles.ended text.put_cycles.Reads.Asked
-    × AsksNothing lines.put_line.ended lines.put_line.Reads.Asked
-    × AsksNothing lines.put_end.ended lines.put_end.Reads.Asked
-    × AsksNothing lines.put_rows.ended lines.put_rows.Reads.Asked
-    × AsksNothing lines.put_breaks.ended lines.put_breaks.Reads.Asked
-    × AsksNothing argument.small_number.ended argument.small_number.Reads.Asked
-    × AsksNothing account.put_report.ended account.put_report.Reads.Asked
+    AsksNothing text_contracts.put.ended text.put.Reads.Asked
+    × AsksNothing text_contracts.put_all.ended text.put_all.Reads.Asked
+    × AsksNothing text_contracts.front.ended text.front.Reads.Asked
+    × AsksNothing text_contracts.put_decimal.ended text.put_decimal.Reads.Asked
+    × AsksNothing text_contracts.put_hex.ended text.put_hex.Reads.Asked
+    × AsksNothing text_contracts.put_number.ended text.put_number.Reads.Asked
+    × AsksNothing text_contracts.put_long.ended text.put_long.Reads.Asked
+    × AsksNothing text_contracts.put_short.ended text.put_short.Reads.Asked
+    × AsksNothing text_contracts.put_count.ended text.put_count.Reads.Asked
+    × AsksNothing text_contracts.put_metres.ended text.put_metres.Reads.Asked
+    × AsksNothing text_contracts.put_hertz.ended text.put_hertz.Reads.Asked
+    × AsksNothing text_contracts.put_cycles.ended text.put_cycles.Reads.Asked
+    × AsksNothing lines_contracts.put_line.ended lines.put_line.Reads.Asked
+    × AsksNothing lines_contracts.put_end.ended lines.put_end.Reads.Asked
+    × AsksNothing lines_contracts.put_rows.ended lines.put_rows.Reads.Asked
+    × AsksNothing lines_contracts.put_breaks.ended lines.put_breaks.Reads.Asked
+    × AsksNothing argument_contracts.small_number.ended argument.small_number.Reads.Asked
+    × AsksNothing account_contracts.put_report.ended account.put_report.Reads.Asked
 text_asks_nothing =
     ((λ κs a. tt), (λ κs a. tt), (λ κs a. tt), (λ κs a. tt), (λ κs a. tt), (λ κs a. tt), (λ κs a. tt), (λ κs a. tt), (λ κs a. tt), (λ κs a. tt), (λ κs a. tt), (λ κs a. tt), (λ κs a. tt), (λ κs a. tt), (λ κs a. tt), (λ κs a. tt), (λ κs a. tt), (λ κs a. tt))
 
--- the two over a lent state are walked by hand and so have no `Reads`: their `requires` is empty in every model of the logic
-pub cs_feed_asks_nothing : (w : World) (κs : Lfts 4) (a : Args board.cs_feed.signature κs) → (board.cs_feed.clauses w.𝓛 w.𝓜.mem w.𝓡.run κs a).requires tt ≡ emp w.𝓤
+-- and of the two over a lent state: their `requires` is empty in every model of the logic
+pub cs_feed_asks_nothing : (w : World) (κs : Lfts 4) (a : Args board_contracts.cs_feed.signature κs) → (board_contracts.cs_feed.clauses w.𝓛 w.𝓜.mem w.𝓡.run κs a).requires tt ≡ emp w.𝓤
 cs_feed_asks_nothing w κs a = refl
 
-pub cs_finish_asks_nothing : (w : World) (κs : Lfts 3) (a : Args board.cs_finish.signature κs) → (board.cs_finish.clauses w.𝓛 w.𝓜.mem w.𝓡.run κs a).requires tt ≡ emp w.𝓤
+pub cs_finish_asks_nothing : (w : World) (κs : Lfts 3) (a : Args board_contracts.cs_finish.signature κs) → (board_contracts.cs_finish.clauses w.𝓛 w.𝓜.mem w.𝓡.run κs a).requires tt ≡ emp w.𝓤
 cs_finish_asks_nothing w κs a = refl

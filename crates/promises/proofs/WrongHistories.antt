@@ -5,7 +5,7 @@ use mathlib.Core.List.{List, [], ◌∷◌, ◌++◌}
 use native.Mathlib.Omega.{arith}
 use lib.ListN.{get_or, replicate, take}
 use contract.Lifetimes.{Lfts}
-use denote.Ref.{Bor}
+use denote.Ref.{Bor, MutBor}
 use denote.Triple.Entry.{Args}
 use Rattle.octets.specs.Begins.{fit}
 use Rattle.octets.specs.Checksum.{checksum_from}
@@ -19,6 +19,7 @@ use Rattle.history.specs.Words.{put_last, fresh_words}
 use Rattle.history.specs.Appearances.{appearances_up_to, appearances_in}
 use Rattle.history.specs.Breaks.{Entry, numbers_of, after_all}
 use Rattle.history.specs.Calls.{Call, call_by, next_call}
+use Rattle.history.specs.contracts as contracts
 use Rattle.history.proofs as history
 use Rattle.owed.specs.Meets.{Program, Meets}
 use Rattle.promises.specs.History.{last_of, breaks_since}
@@ -80,31 +81,34 @@ twice_broken = refl
 abbrev reference : List ℕ → Bor (List ℕ)
 reference xs = record { ref_ptr = (0, 0); now = xs }
 
-module _ (breaks : Program history.next_breaks.ended) (meets : Meets history.next_breaks.ended history.next_breaks.Reads.Learnt breaks) where
+abbrev mutable : List ℕ → MutBor (List ℕ)
+mutable xs = record { ref_ptr = (0, 0); ghost_name = 0; now = xs }
+
+module _ (breaks : Program contracts.next_breaks.ended) (meets : Meets contracts.next_breaks.ended history.next_breaks.Reads.Learnt breaks) where
   abbrev κs : Lfts 3
   κs = ([], ([], ([], tt)))
 
-  abbrev asked : Args history.next_breaks.signature κs
-  asked = (reference twice, (reference fresh, (reference lent, tt)))
+  abbrev asked : Args contracts.next_breaks.signature κs
+  asked = (reference twice, (mutable fresh, (mutable lent, tt)))
 
   listed : breaks.answers κs asked ≡ Listed 1
   listed = (meets κs asked).answer ∙ twice_listed
 
   -- one that keeps the pair where a break is said
-  pub not_keeping_the_pair : ((κs : Lfts 3) (a : Args history.next_breaks.signature κs) (n : ℕ) → breaks.answers κs a ≡ Listed (suc n) → (breaks.leaves κs a).1.0 ≡ a.1.0.now) → ⊥
+  pub not_keeping_the_pair : ((κs : Lfts 3) (a : Args contracts.next_breaks.signature κs) (n : ℕ) → breaks.answers κs a ≡ Listed (suc n) → (breaks.leaves κs a).1.0 ≡ a.1.0.now) → ⊥
   not_keeping_the_pair keeps =
       let z : ◌≡◌ {A = ℕ} 0 1 = sym fresh_unseen ∙ ap (λ w. get_or w 1 0) (sym (keeps κs asked 0 listed) ∙ (meets κs asked).words) ∙ twice_seen in
       omega arith
 
   -- one that overlooks a second appearance in one message: in a fresh history there is no other break
-  pub not_overlooking_the_second : ((κs : Lfts 3) (a : Args history.next_breaks.signature κs) (n : ℕ) → a.1.0.now ≡ fresh_words 0 → breaks.answers κs a ≡ Listed n → n ≡ 0) → ⊥
+  pub not_overlooking_the_second : ((κs : Lfts 3) (a : Args contracts.next_breaks.signature κs) (n : ℕ) → a.1.0.now ≡ fresh_words 0 → breaks.answers κs a ≡ Listed n → n ≡ 0) → ⊥
   not_overlooking_the_second overlooks = let z : ◌≡◌ {A = ℕ} 1 0 = overlooks κs asked 1 refl listed in omega arith
 
 -- ---- and the contract does not shut out everything: what the definition says meets it
-abbrev called_as : (κs : Lfts 3) → Args history.next_breaks.signature κs → Call
+abbrev called_as : (κs : Lfts 3) → Args contracts.next_breaks.signature κs → Call
 called_as κs a = next_call a.0.now a.1.0.now a.1.1.0.now
 
 pub right_breaks :
-    Meets history.next_breaks.ended history.next_breaks.Reads.Learnt
+    Meets contracts.next_breaks.ended history.next_breaks.Reads.Learnt
     (record { answers = λ κs a. (called_as κs a).answer; leaves = λ κs a. (tt, ((called_as κs a).words, ((called_as κs a).list, tt))) })
 right_breaks κs a = record { answer = refl; words = refl; list = refl }

@@ -6,7 +6,7 @@ use native.Mathlib.Omega.{arith}
 use lib.ListN.{length, get_or, replicate}
 use lib.IntN.{pos}
 use contract.Lifetimes.{Lfts}
-use denote.Ref.{Bor}
+use denote.Ref.{Bor, MutBor}
 use denote.Triple.Entry.{Args}
 use Rattle.octets.specs.Begins.{fit}
 use Rattle.octets.specs.Checksum.{checksum_from}
@@ -37,13 +37,19 @@ use Rattle.promises.specs.Numbers.{observed_number}
 use Rattle.samples.specs.Table.{A, B, All}
 use Rattle.samples.proofs.Proved.{samples}
 use Rattle.owed.specs.Meets.{Program, Meets}
+use Rattle.macm.specs.contracts as macm_contracts
 use Rattle.macm.proofs as macm
+use Rattle.compose.specs.contracts as compose_contracts
 use Rattle.compose.proofs as compose
+use Rattle.stream.specs.contracts as stream_contracts
 use Rattle.stream.proofs as stream
 
--- a reference to these bytes, wherever they stand
+-- a reference to these bytes, wherever they stand, and one by which they may change
 abbrev reference : List ℕ → Bor (List ℕ)
 reference xs = record { ref_ptr = (0, 0); now = xs }
+
+abbrev mutable : List ℕ → MutBor (List ℕ)
+mutable xs = record { ref_ptr = (0, 0); ghost_name = 0; now = xs }
 
 -- ---- a check that refuses everything: A is accepted
 A_accepted : check_number (verdict A) ≡ 0
@@ -55,12 +61,12 @@ unfolding All
 B_accepted = samples.1.1.1.0
 
 pub not_refusing_everything :
-    (check : Program macm.check.ended) → ((κs : Lfts 1) (a : Args macm.check.signature κs) → (r : Refusal) × (check.answers κs a ≡ Refused r)) →
-    Meets macm.check.ended macm.check.Reads.Learnt check →
+    (check : Program macm_contracts.check.ended) → ((κs : Lfts 1) (a : Args macm_contracts.check.signature κs) → (r : Refusal) × (check.answers κs a ≡ Refused r)) →
+    Meets macm_contracts.check.ended macm.check.Reads.Learnt check →
     ⊥
 not_refusing_everything check refuses meets =
     let κs : Lfts 1 = ([], tt) in
-    let a : Args macm.check.signature κs = (reference A, tt) in
+    let a : Args macm_contracts.check.signature κs = (reference A, tt) in
     let r = refuses κs a in
     let z : check_number (verdict A) ≡ check_number (Refused r.0) = ap check_number (sym (meets κs a) ∙ r.1) in
     omega (arith, positive r.0, A_accepted, z)
@@ -75,9 +81,9 @@ unfolding head_of head_by header_of verdict verdict_by shape_of shape_by shape_a
 B_read = refl
 
 pub not_one_fixed_header :
-    (read : Program macm.read_header.ended) (fixed : Head) →
-    ((κs : Lfts 1) (a : Args macm.read_header.signature κs) → check_number (verdict a.0.now) ≡ 0 → read.answers κs a ≡ fixed) →
-    Meets macm.read_header.ended macm.read_header.Reads.Learnt read →
+    (read : Program macm_contracts.read_header.ended) (fixed : Head) →
+    ((κs : Lfts 1) (a : Args macm_contracts.read_header.signature κs) → check_number (verdict a.0.now) ≡ 0 → read.answers κs a ≡ fixed) →
+    Meets macm_contracts.read_header.ended macm.read_header.Reads.Learnt read →
     ⊥
 not_one_fixed_header read fixed always meets =
     let κs : Lfts 1 = ([], tt) in
@@ -104,9 +110,9 @@ unfolding observed_of observed_by observed_as verdict verdict_by shape_of shape_
 second_read = refl
 
 pub not_one_fixed_observation :
-    (read : Program macm.read_observation.ended) (fixed : Observed) →
-    ((κs : Lfts 1) (a : Args macm.read_observation.signature κs) → check_number (verdict a.0.now) ≡ 0 → read.answers κs a ≡ fixed) →
-    Meets macm.read_observation.ended macm.read_observation.Reads.Learnt read →
+    (read : Program macm_contracts.read_observation.ended) (fixed : Observed) →
+    ((κs : Lfts 1) (a : Args macm_contracts.read_observation.signature κs) → check_number (verdict a.0.now) ≡ 0 → read.answers κs a ≡ fixed) →
+    Meets macm_contracts.read_observation.ended macm.read_observation.Reads.Learnt read →
     ⊥
 not_one_fixed_observation read fixed always meets =
     let κs : Lfts 1 = ([], tt) in
@@ -124,12 +130,12 @@ unfolding set_bytes set_bytes_by with_observation sealed observation_bytes bytes
 set_owes = refl
 
 pub not_writing_nothing :
-    (set : Program compose.set.ended) → ((κs : Lfts 1) (a : Args compose.set.signature κs) → (set.leaves κs a).0 ≡ a.0.now) →
-    Meets compose.set.ended compose.set.Reads.Learnt set →
+    (set : Program compose_contracts.set.ended) → ((κs : Lfts 1) (a : Args compose_contracts.set.signature κs) → (set.leaves κs a).0 ≡ a.0.now) →
+    Meets compose_contracts.set.ended compose.set.Reads.Learnt set →
     ⊥
 not_writing_nothing set Writes-nothing meets =
     let κs : Lfts 1 = ([], tt) in
-    let a : Args compose.set.signature κs = (reference one, (0, (seven, tt))) in
+    let a : Args compose_contracts.set.signature κs = (mutable one, (0, (seven, tt))) in
     let z : ◌≡◌ {A = ℕ} 0 7 = ap (λ m. get_or m 14 0) (sym (Writes-nothing κs a) ∙ (meets κs a).1) ∙ set_owes in
     omega arith
 
@@ -137,8 +143,8 @@ not_writing_nothing set Writes-nothing meets =
 abbrev lent : List ℕ
 lent = replicate 6136 0
 
-abbrev Fed : (κs : Lfts 3) → State → List ℕ → Args stream.feed.signature κs
-Fed κs s p = (s, (reference p, (reference lent, (reference lent, tt))))
+abbrev Fed : (κs : Lfts 3) → State → List ℕ → Args stream_contracts.feed.signature κs
+Fed κs s p = (s, (reference p, (mutable lent, (mutable lent, tt))))
 
 -- one that finds the first message and then, once bytes are taken, only says that it needs more: fed A again, it owes A
 abbrev later : State
@@ -149,8 +155,8 @@ unfolding feed_call feed_checked feed_checked_by checked feed fed scan scanned s
 later_owes = refl
 
 pub not_only_the_first :
-    (feed : Program stream.feed.ended) → ((κs : Lfts 3) (a : Args stream.feed.signature κs) → (a.0.total ≡ 0 → ⊥) → (feed.answers κs a).answer ≡ NeedsMore) →
-    Meets stream.feed.ended stream.feed.Reads.Learnt feed →
+    (feed : Program stream_contracts.feed.ended) → ((κs : Lfts 3) (a : Args stream_contracts.feed.signature κs) → (a.0.total ≡ 0 → ⊥) → (feed.answers κs a).answer ≡ NeedsMore) →
+    Meets stream_contracts.feed.ended stream.feed.Reads.Learnt feed →
     ⊥
 not_only_the_first feed only-needs meets =
     let κs : Lfts 3 = ([], ([], ([], tt))) in
@@ -168,7 +174,7 @@ behind_owes : (feed_call fresh_state (A ++ (0 ∷ [])) lent lent).answer ≡ Mes
 unfolding feed_call feed_checked feed_checked_by checked feed fed scan scanned seen settle look look_by judged claim claim_by counted fit agrees checksum_from
 behind_owes = refl
 
-module _ (feed : Program stream.feed.ended) (guess : State → ℕ → ℕ) (meets : Meets stream.feed.ended stream.feed.Reads.Learnt feed) where
+module _ (feed : Program stream_contracts.feed.ended) (guess : State → ℕ → ℕ) (meets : Meets stream_contracts.feed.ended stream.feed.Reads.Learnt feed) where
   lifetimes : Lfts 3
   lifetimes = ([], ([], ([], tt)))
 
@@ -178,32 +184,32 @@ module _ (feed : Program stream.feed.ended) (guess : State → ℕ → ℕ) (mee
   behind : (feed.answers lifetimes (Fed lifetimes fresh_state (A ++ (0 ∷ [])))).answer ≡ Message 16 0 16
   behind = ap (λ r. r.answer) (meets lifetimes (Fed lifetimes fresh_state (A ++ (0 ∷ [])))).reply ∙ behind_owes
 
-  pub not_an_invented_gap : ((κs : Lfts 3) (a : Args stream.feed.signature κs) (n g t : ℕ) → (feed.answers κs a).answer ≡ Message n g t → g ≡ guess a.0 (length a.1.0.now)) → ⊥
+  pub not_an_invented_gap : ((κs : Lfts 3) (a : Args stream_contracts.feed.signature κs) (n g t : ℕ) → (feed.answers κs a).answer ≡ Message n g t → g ≡ guess a.0 (length a.1.0.now)) → ⊥
   not_an_invented_gap invents = omega (arith, invents lifetimes _ 16 1 17 before, invents lifetimes _ 16 0 16 behind)
 
-  pub not_an_invented_taken_count : ((κs : Lfts 3) (a : Args stream.feed.signature κs) (n g t : ℕ) → (feed.answers κs a).answer ≡ Message n g t → t ≡ guess a.0 (length a.1.0.now)) → ⊥
+  pub not_an_invented_taken_count : ((κs : Lfts 3) (a : Args stream_contracts.feed.signature κs) (n g t : ℕ) → (feed.answers κs a).answer ≡ Message n g t → t ≡ guess a.0 (length a.1.0.now)) → ⊥
   not_an_invented_taken_count invents = omega (arith, invents lifetimes _ 16 1 17 before, invents lifetimes _ 16 0 16 behind)
 
 -- ---- and no contract of these shuts out everything: what the definitions say meets it
-pub right_check : Meets macm.check.ended macm.check.Reads.Learnt (record { answers = λ κs a. verdict a.0.now; leaves = λ κs a. (tt, tt) })
+pub right_check : Meets macm_contracts.check.ended macm.check.Reads.Learnt (record { answers = λ κs a. verdict a.0.now; leaves = λ κs a. (tt, tt) })
 right_check κs a = refl
 
-pub right_header : Meets macm.read_header.ended macm.read_header.Reads.Learnt (record { answers = λ κs a. head_of a.0.now; leaves = λ κs a. (tt, tt) })
+pub right_header : Meets macm_contracts.read_header.ended macm.read_header.Reads.Learnt (record { answers = λ κs a. head_of a.0.now; leaves = λ κs a. (tt, tt) })
 right_header κs a = refl
 
 pub right_observation :
-    Meets macm.read_observation.ended macm.read_observation.Reads.Learnt (record { answers = λ κs a. observed_of a.0.now a.1.0; leaves = λ κs a. (tt, (tt, tt)) })
+    Meets macm_contracts.read_observation.ended macm.read_observation.Reads.Learnt (record { answers = λ κs a. observed_of a.0.now a.1.0; leaves = λ κs a. (tt, (tt, tt)) })
 right_observation κs a = refl
 
 pub right_set :
-    Meets compose.set.ended compose.set.Reads.Learnt
+    Meets compose_contracts.set.ended compose.set.Reads.Learnt
     (record { answers = λ κs a. set_of a.0.now a.1.0; leaves = λ κs a. (set_bytes a.0.now a.1.0 a.1.1.0, (tt, (tt, tt))) })
 right_set κs a = (refl, refl)
 
-abbrev fed_as : (κs : Lfts 3) → Args stream.feed.signature κs → Call
+abbrev fed_as : (κs : Lfts 3) → Args stream_contracts.feed.signature κs → Call
 fed_as κs a = feed_call a.0 a.1.0.now a.1.1.0.now a.1.1.1.0.now
 
 pub right_feed :
-    Meets stream.feed.ended stream.feed.Reads.Learnt
+    Meets stream_contracts.feed.ended stream.feed.Reads.Learnt
     (record { answers = λ κs a. reply_of (fed_as κs a); leaves = λ κs a. (tt, (tt, ((fed_as κs a).window, ((fed_as κs a).output, tt)))) })
 right_feed κs a = record { reply = refl; window = refl; output = refl }
