@@ -22,7 +22,3 @@ pub(crate) fn say(rt: &HostRuntime, what: &str, error: &io::Error) {
     let reason = words(error, &mut buffer);
     let _ = eprintln!(rt; "error: {what}: {reason}");
 }
-
-pub(crate) fn say_line(rt: &HostRuntime, line: &str) {
-    let _ = eprintln!(rt; "{line}");
-}

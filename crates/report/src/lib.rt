@@ -3,8 +3,8 @@
 // program prints is held to stored output.
 #![tactic(auto)]
 
-ghost use Rattle.std.specs.Prelude.{◌≡◌};
-ghost use Rattle.report.specs.Ends.{IsEnd};
+ghost use Rattle.std.specs.Prelude.{◌≡◌, IfOk};
+ghost use Rattle.report.specs.Ends.{status_of};
 
 use argument::Small;
 use blocks::Block;
@@ -17,12 +17,10 @@ use std::num::{wrapping_add_u64, wrapping_add_usize};
 mod blocks;
 mod failure;
 
-// How a program ends: 0, 1 after a line that says why, or as a process that SIGPIPE ends, since a reader that goes away, as `head` does, is no failure.
-const WELL: u8 = 0;
+// The status of a process that SIGPIPE ends: a reader that goes away, as `head` does, is no failure.
+const READER_GONE: u8 = 141;
 
 const FAILED: u8 = 1;
-
-const READER_GONE: u8 = 141;
 
 // What is printed of the messages: a line of each, the rows of its observations, or the breaks of lock in those of one TYPE.
 #[derive(Clone, Copy)]
@@ -44,7 +42,7 @@ struct Progress {
     end: usize,
     over: bool,
     waiting: usize,
-    status: u8,
+    ended: io::Result<()>,
     going: bool,
 }
 
@@ -77,19 +75,8 @@ fn keep(buffer: &mut [u8], from: usize, end: usize) -> usize {
     count
 }
 
-/// Says on standard error why a stream or a file fails, and answers the status of a program that ends so.
-pub fn failed(rt: &HostRuntime, stream: &str, error: &io::Error) -> u8
-    ensures { result ≡ 1 }
-{
-    failure::say(rt, stream, error);
-    FAILED
-}
-
 // Reads a block behind those that were kept. Where reading fails that is said, and the input is over.
-fn read_on(rt: &HostRuntime, progress: Progress, buffer: &mut [u8]) -> Progress
-    requires { IsEnd progress.status }
-    ensures { IsEnd result.status }
-{
+fn read_on(rt: &HostRuntime, progress: Progress, buffer: &mut [u8]) -> Progress {
     let kept = keep(buffer, progress.from, progress.end);
     match blocks::read_behind(&mut rt.stdin(), buffer, kept) {
         Ok(got) => Progress {
@@ -98,54 +85,41 @@ fn read_on(rt: &HostRuntime, progress: Progress, buffer: &mut [u8]) -> Progress
             over: got == 0,
             ..progress
         },
-        Err(error) => Progress {
-            from: 0,
-            end: kept,
-            over: true,
-            status: failed(rt, "standard input", &error),
-            ..progress
-        },
-    }
-}
-
-// ---- text out
-
-// Writes out the text that waits, or says why it cannot, but for a reader that has gone away.
-fn write_out(rt: &HostRuntime, text: &[u8], waiting: usize) -> u8
-    ensures { IsEnd result }
-{
-    match blocks::write_out(&mut rt.stdout(), text::front(text, waiting)) {
-        Ok(()) => WELL,
         Err(error) => {
-            if error.kind() == ErrorKind::BrokenPipe {
-                READER_GONE
-            } else {
-                failed(rt, "standard output", &error)
+            say_failure(rt, "standard input", &error);
+            Progress {
+                from: 0,
+                end: kept,
+                over: true,
+                ended: Err(error),
+                ..progress
             }
         }
     }
 }
 
-// Nothing waits any more; where it cannot be written there is no more to do. The first failure says how the program ends.
-fn written(rt: &HostRuntime, progress: Progress, text: &[u8]) -> Progress
-    requires { IsEnd progress.status }
-    ensures { IsEnd result.status }
-{
-    let status = write_out(rt, text, progress.waiting);
-    Progress {
-        waiting: 0,
-        status: first_of(progress.status, status),
-        going: status == WELL,
-        ..progress
+// ---- text out
+
+// Writes out the text that waits, or says why it cannot. That a reader has gone away, as `head` does, is no failure.
+fn write_out(rt: &HostRuntime, text: &[u8], waiting: usize) -> io::Result<()> {
+    let written = blocks::write_out(&mut rt.stdout(), text::front(text, waiting));
+    if let Err(error) = written {
+        if error.kind() != ErrorKind::BrokenPipe {
+            say_failure(rt, "standard output", &error);
+        }
     }
+    written
 }
 
-fn first_of(first: u8, second: u8) -> u8
-    requires first { IsEnd first }
-    requires second { IsEnd second }
-    ensures { IsEnd result }
-{
-    if first == WELL { second } else { first }
+// Nothing waits any more; where it cannot be written there is no more to do.
+fn written(rt: &HostRuntime, progress: Progress, text: &[u8]) -> Progress {
+    let now = write_out(rt, text, progress.waiting);
+    Progress {
+        waiting: 0,
+        ended: progress.ended.and(now),
+        going: now.is_ok(),
+        ..progress
+    }
 }
 
 // What is printed of a message; the breaks go by a history, and through a list.
@@ -170,10 +144,7 @@ fn put_message(
 // ---- the division
 
 // So many gap bytes.
-fn passed(progress: Progress, count: usize) -> Progress
-    requires { IsEnd progress.status }
-    ensures { IsEnd result.status }
-{
+fn passed(progress: Progress, count: usize) -> Progress {
     Progress {
         gap: wrapping_add_u64(progress.gap, count as u64),
         position: wrapping_add_u64(progress.position, count as u64),
@@ -190,10 +161,7 @@ fn given(
     text: &mut [u8],
     history: &mut [u64; history::WORDS],
     list: &mut [u64],
-) -> Progress
-    requires { IsEnd progress.status }
-    ensures { IsEnd result.status }
-{
+) -> Progress {
     let waiting = put_message(progress, message, text, history, list);
     let next = Progress {
         messages: wrapping_add_u64(progress.messages, 1),
@@ -221,10 +189,7 @@ fn put_last(progress: Progress, text: &mut [u8]) -> usize {
 }
 
 // The end: the last line, and all that waits.
-fn ended(rt: &HostRuntime, progress: Progress, text: &mut [u8]) -> Progress
-    requires { IsEnd progress.status }
-    ensures { IsEnd result.status }
-{
+fn ended(rt: &HostRuntime, progress: Progress, text: &mut [u8]) -> Progress {
     let waiting = put_last(progress, text);
     let last = written(
         rt,
@@ -241,10 +206,7 @@ fn ended(rt: &HostRuntime, progress: Progress, text: &mut [u8]) -> Progress
 }
 
 // The next block. What waits is written out before it, since a live line may keep a read waiting for as long as it likes.
-fn more(rt: &HostRuntime, progress: Progress, buffer: &mut [u8], text: &[u8]) -> Progress
-    requires { IsEnd progress.status }
-    ensures { IsEnd result.status }
-{
+fn more(rt: &HostRuntime, progress: Progress, buffer: &mut [u8], text: &[u8]) -> Progress {
     let next = written(rt, progress, text);
     if next.going {
         return read_on(rt, next, buffer);
@@ -260,10 +222,7 @@ fn turn(
     text: &mut [u8],
     history: &mut [u64; history::WORDS],
     list: &mut [u64],
-) -> Progress
-    requires { IsEnd progress.status }
-    ensures { IsEnd result.status }
-{
+) -> Progress {
     let rest = part(buffer, progress.from, progress.end);
     let passage = division::walk(progress.over, rest);
     let walked = passage.walked;
@@ -282,9 +241,7 @@ fn turn(
 }
 
 // Turn after turn until there is no more to do. An input has an end, though nothing says so: the turns are counted up to a number that no run reaches.
-fn print_recording(rt: &HostRuntime, printed: Printed, heading: &[u8]) -> u8
-    ensures { IsEnd result }
-{
+fn print_recording(rt: &HostRuntime, printed: Printed, heading: &[u8]) -> io::Result<()> {
     let mut buffer = [0u8; 131072];
     let mut text = [0u8; 131072];
     let mut history = [0u64; history::WORDS];
@@ -301,7 +258,7 @@ fn print_recording(rt: &HostRuntime, printed: Printed, heading: &[u8]) -> u8
         end: 0,
         over: false,
         waiting: text::put_all(&mut text, 0, heading),
-        status: WELL,
+        ended: Ok(()),
         going: true,
     };
     for _ in 0..u64::MAX {
@@ -314,22 +271,22 @@ fn print_recording(rt: &HostRuntime, printed: Printed, heading: &[u8]) -> u8
             &mut list,
         );
         if !progress.going {
-            return progress.status;
+            break;
         }
     }
-    progress.status
+    progress.ended
 }
 
 // The listing of document 01.
-pub fn listing(rt: &HostRuntime) -> u8
-    ensures { IsEnd result }
+pub fn listing(rt: &HostRuntime) -> io::Result<()>
+    ensures { IfOk result (λ u. u ≡ tt) }
 {
     print_recording(rt, Printed::Listing, b"at bytes form obs time\n")
 }
 
 // The rows for the people who compute the track.
-pub fn rows(rt: &HostRuntime) -> u8
-    ensures { IsEnd result }
+pub fn rows(rt: &HostRuntime) -> io::Result<()>
+    ensures { IfOk result (λ u. u ≡ tt) }
 {
     let heading = b"at time form type sid cn0 condition range phase bits polarity rate lock\n";
     print_recording(rt, Printed::Rows, heading)
@@ -356,68 +313,78 @@ fn goes_on(rt: &HostRuntime) -> bool {
 }
 
 // The breaks of lock in the messages of the TYPE that the program is started with.
-pub fn breaks(rt: &HostRuntime) -> u8
-    ensures { IsEnd result }
+pub fn breaks(rt: &HostRuntime) -> io::Result<()>
+    ensures { IfOk result (λ u. u ≡ tt) }
 {
     match started_with(rt) {
         Small::Number(signal) => {
             print_recording(rt, Printed::Breaks(signal), b"at sid time break\n")
         }
         Small::Other => {
-            failure::say_line(
-                rt,
-                "error: the argument has to be a TYPE, 0 to 255 in decimal digits",
+            let _ = eprintln!(rt;
+                "error: the argument has to be a TYPE, 0 to 255 in decimal digits"
             );
-            FAILED
+            Ok(())
         }
     }
 }
 
 // ---- the account
 
-// A recording read into a buffer: how many bytes there are, and how it ends as it stands.
-#[derive(Clone, Copy)]
-struct Filled {
-    count: usize,
-    status: u8,
-}
-
-// Reads until the buffer is full or the input ends.
-fn fill(rt: &HostRuntime, buffer: &mut [u8]) -> Filled
-    ensures { IsEnd result.status }
-{
+// Reads until the buffer is full, the input ends or reading fails, which is said and told: how many bytes there are.
+fn fill(rt: &HostRuntime, buffer: &mut [u8], ended: &mut io::Result<()>) -> usize {
     let mut count = 0;
     for _ in 0..buffer.len() {
         match blocks::read_behind(&mut rt.stdin(), buffer, count) {
             Ok(0) => break,
             Ok(got) => count = wrapping_add_usize(count, got),
             Err(error) => {
-                let status = failed(rt, "standard input", &error);
-                return Filled { count, status };
+                say_failure(rt, "standard input", &error);
+                *ended = Err(error);
+                break;
             }
         }
     }
-    Filled {
-        count,
-        status: WELL,
-    }
+    count
 }
 
 // One byte more than fits is read, to see whether the recording is longer.
-fn print_reasons(rt: &HostRuntime, recording: &mut [u8], text: &mut [u8]) -> u8
-    ensures { IsEnd result }
-{
-    let filled = fill(rt, recording);
-    let waiting = account::put_report(text, 0, part(recording, 0, filled.count));
-    first_of(filled.status, write_out(rt, text, waiting))
+fn print_reasons(rt: &HostRuntime, recording: &mut [u8], text: &mut [u8]) -> io::Result<()> {
+    let mut ended = Ok(());
+    let count = fill(rt, recording, &mut ended);
+    let waiting = account::put_report(text, 0, part(recording, 0, count));
+    ended.and(write_out(rt, text, waiting))
 }
 
 // Why each position of a short recording is or is not the first of a message. The text has room for 20 bytes a line and the heading, which no recording
 // needs more of (promises/proofs/Room.antt).
-pub fn reasons(rt: &HostRuntime) -> u8
-    ensures { IsEnd result }
+pub fn reasons(rt: &HostRuntime) -> io::Result<()>
+    ensures { IfOk result (λ u. u ≡ tt) }
 {
     let mut recording = Block::<61441>::new();
     let mut text = Block::<1228816>::new();
     print_reasons(rt, recording.bytes(), text.bytes())
+}
+
+// ---- how a program ends
+
+/// Says on standard error what failed and why, in the system's words: a line that begins with `error: `.
+pub fn say_failure(rt: &HostRuntime, what: &str, error: &io::Error)
+    ensures { result ≡ tt }
+{
+    failure::say(rt, what, error);
+}
+
+/// The exit status of a program whose run ended so: 0, or 141 where its reader has gone away, or 1.
+#[tactic(auto, unfolding(crate::specs::Ends::status_of, crate::specs::Ends::status_by))]
+pub fn status(ended: io::Result<()>) -> u8
+    ensures { result ≡ status_of ended }
+{
+    match ended {
+        Ok(()) => 0,
+        Err(error) => match error.kind() {
+            ErrorKind::BrokenPipe => READER_GONE,
+            _ => FAILED,
+        },
+    }
 }

@@ -4,5 +4,5 @@
 use std::process::ExitCode;
 
 fn main(rt: HostRuntime) -> ExitCode {
-    ExitCode::from(report::rows(&rt))
+    ExitCode::from(report::status(report::rows(&rt)))
 }

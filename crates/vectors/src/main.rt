@@ -5,9 +5,8 @@
 use division::Next;
 use macm::Verdict;
 use novatel::{Correction, Reading, Record};
-use std::fs;
 use std::io::{Read, Write};
-use std::process::ExitCode;
+use std::{fs, io};
 use stream::{Answer, Reply};
 
 // ---- lines
@@ -89,7 +88,7 @@ fn load(rt: &HostRuntime, name: &str, recording: &mut [u8]) -> usize {
     match fs::open(rt, name) {
         Ok(mut file) => read_full(&mut file, recording),
         Err(error) => {
-            report::failed(rt, name, &error);
+            report::say_failure(rt, name, &error);
             0
         }
     }
@@ -235,7 +234,7 @@ fn put_halves(text: &mut [u8], at: usize) -> usize {
     put_rolls(text, next, 0, -1073741823)
 }
 
-fn main(rt: HostRuntime) -> ExitCode {
+fn main(rt: HostRuntime) -> io::Result<()> {
     let mut text = [0u8; 16384];
     let at = put_published(&rt, &mut text, 0, "264-21-figure-1.bin");
     let at = put_published(&rt, &mut text, at, "264-04-table-4.bin");
@@ -252,8 +251,5 @@ fn main(rt: HostRuntime) -> ExitCode {
     let at = text::put_all(&mut text, at, b"rolls and corrected\n");
     let at = put_far(&mut text, at);
     let at = put_halves(&mut text, at);
-    match rt.stdout().write_all(text::front(&text, at)) {
-        Ok(()) => ExitCode::SUCCESS,
-        Err(_) => ExitCode::FAILURE,
-    }
+    rt.stdout().write_all(text::front(&text, at))
 }
