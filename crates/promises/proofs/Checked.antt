@@ -21,7 +21,8 @@ use Rattle.macm.specs.declared.Verdict.TheVariants.{Refused, Accepted}
 use Rattle.macm.specs.Form.{new_sync, old_sync, count_at, size}
 use Rattle.macm.specs.Check.{agrees, verdict}
 use Rattle.macm.specs.Answers.{check_number}
-use Rattle.macm.proofs.CheckSteps.{Fine, fine, sound, five, is_new, is_old, is_neither}
+use Rattle.macm.proofs.CheckSteps.{Fine, fine, five, is_new, is_old, is_neither}
+use Rattle.macm.proofs.CheckSound.{sound}
 use Rattle.front.specs.declared.Claim.{Claim}
 use Rattle.front.specs.declared.Claim.TheVariants.{Nothing, AtLeast, Long}
 use Rattle.front.specs.Claim.{cap, counted, claim_by, claim}
