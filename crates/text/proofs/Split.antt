@@ -10,7 +10,7 @@ use lib.Dec.{ltb}
 use lib.Arith.{mod-mul}
 use lib.ListN.{length, set, length-set}
 use Rattle.text.specs.Digits.{digit_of, digits, needed, decimal}
-use Rattle.text.specs.Put.{Puts}
+use Rattle.text.specs.Put.{written, after, Puts}
 use Rattle.text.proofs.PutLaws.{puts_one, puts_join}
 use Rattle.text.proofs.Spelling.{digit_ten, needed_last, needed_more, tenth_fits}
 
@@ -87,6 +87,17 @@ pub decimal_digit : (n : ℕ) → n < 10 → decimal n ≡ (48 + n) ∷ []
 unfolding digits
 decimal_digit n h =
     ap (λ j. digits 10 j n) (needed_last 19 n h) ∙ ap (λ d. digit_of d ∷ []) (mod-eq_of_lt h) ∙ ap (λ b. b ∷ []) (sym (digit_ten n h))
+
+-- and that digit put
+module _ (out : List ℕ) (at n : ℕ) (room : at < length out) (digit : n < 10) where
+  digit_put : Puts out at (decimal n) (at + 1) (set out at (48 + n))
+  digit_put = rw (decimal_digit n digit) (puts_one out at (48 + n) room)
+
+  pub digit_next : at + 1 ≡ after (length out) at (decimal n)
+  digit_next = digit_put.next
+
+  pub digit_bytes : set out at (48 + n) ≡ written out at (decimal n)
+  digit_bytes = digit_put.bytes
 
 -- two digits set one behind the other
 pub pair_set : (out : List ℕ) (at n : ℕ) → at + 2 ≤ length out → n < 100 → Puts out at (digits 10 2 n) (at + 2) (set (set out at (48 + n / 10)) (at + 1) (48 + n % 10))

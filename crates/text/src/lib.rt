@@ -166,15 +166,13 @@ fn set_pair(out: &mut [u8], at: usize, n: u32) -> usize
     at + 2
 }
 
-// The first number of two digits.
-const TWO_DIGITS: u32 = 10;
-
 // A number with as many digits as it needs: one or two.
+#[tactic(auto, using(crate::proofs::Split::digit_next, crate::proofs::Split::digit_bytes, crate::proofs::Split::decimal_exact))]
 fn spell_pair(out: &mut [u8], at: usize, n: u32) -> usize
     requires { (at + 2 ≤ length out.old) × (n < 100) }
     ensures { (result ≤ at + 2) × Puts out.old at (decimal n) result out.new }
 {
-    if n < TWO_DIGITS {
+    if n < 10 {
         out[at] = 48 + n as u8;
         return at + 1;
     }
