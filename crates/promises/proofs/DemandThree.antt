@@ -12,6 +12,7 @@ use Rattle.promises.specs.Joined.{joined}
 use Rattle.promises.specs.Run.{Run, as_run, count, NeverRefused, Finished, lengths_and_gaps, read_plain}
 use Rattle.promises.specs.Given.{Given, Uncovered, Valid}
 use Rattle.promises.specs.Calls.{Made, calls}
+use Rattle.promises.specs.Calls as calling
 use Rattle.promises.proofs.AnyCut.{calls_right, calls_summed}
 use Rattle.promises.proofs.WorkBound.{work_at_most}
 use Rattle.promises.proofs.PlainSame.{plain_right}
@@ -25,10 +26,9 @@ module _ (pieces : List (List ℕ)) (window : List ℕ) (outputs : ℕ → List 
   abbrev pub uncut : List ℕ
   uncut = joined pieces
 
-  -- k pieces holding m messages, in at most k + m + 1 calls: each piece is fed, its untaken rest is offered again and an empty rest is not, then the
-  -- stream is finished until the end is answered; from a fresh state, and each call goes on from the state and the window that the one before left
+  -- in at most so many calls, from a fresh state
   abbrev pub made : Made
-  made = calls (length pieces + count (divide uncut 0) + 1) outputs fresh_state window pieces
+  made = calling.made pieces window outputs
 
   abbrev pub run : Run
   run = made.run

@@ -1,10 +1,12 @@
 -- A run of calls over the pieces of a stream, as a host makes them. Definitions only.
-use Rattle.std.specs.Prelude.{ℕ, zero, suc, List, [], ◌∷◌, take, drop}
-use Rattle.promises.specs.Run.{Run, refused, unfinished, ended, gave}
+use Rattle.std.specs.Prelude.{ℕ, zero, suc, ◌+◌, List, [], ◌∷◌, length, take, drop}
+use Rattle.division.specs.Division.{divide}
+use Rattle.promises.specs.Joined.{joined}
+use Rattle.promises.specs.Run.{Run, count, refused, unfinished, ended, gave}
 use Rattle.stream.specs.declared.State.{State}
 use Rattle.stream.specs.declared.Answer.{Answer}
 use Rattle.stream.specs.declared.Answer.TheVariants.{Refused, NeedsMore, Message, End}
-use Rattle.stream.specs.Reader.{Call, feed_call, finish_call}
+use Rattle.stream.specs.Reader.{Call, fresh_state, feed_call, finish_call}
 
 -- the untaken rest of a piece is offered again; an empty rest is not
 unfoldable pub offer : List ℕ → List (List ℕ) → List (List ℕ)
@@ -41,3 +43,12 @@ unfoldable pub calls : ℕ → (ℕ → List ℕ) → Host
 calls zero outputs s w ps = record { run = unfinished; state = s }
 calls (suc n) outputs s w [] = let c = finish_call s w (outputs n) in after_finish (calls n outputs) c.answer c
 calls (suc n) outputs s w (p ∷ ps) = let c = feed_call s p w (outputs n) in after_feed (calls n outputs) p ps c.answer c
+
+module _ (pieces : List (List ℕ)) (window : List ℕ) (outputs : ℕ → List ℕ) where
+  abbrev pub uncut : List ℕ
+  uncut = joined pieces
+
+  -- k pieces holding m messages, in at most k + m + 1 calls: each piece is fed, its untaken rest is offered again and an empty rest is not, then the
+  -- stream is finished until the end is answered; from a fresh state, and each call goes on from the state and the window that the one before left
+  abbrev pub made : Made
+  made = calls (length pieces + count (divide uncut 0) + 1) outputs fresh_state window pieces
