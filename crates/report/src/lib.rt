@@ -277,7 +277,12 @@ fn print_recording(rt: &HostRuntime, printed: Printed, heading: &[u8]) -> io::Re
     progress.ended
 }
 
-// The listing of document 01.
+// ---- the programs over messages
+//
+// Each answers the error of the read or the write that failed, and no other: a line on standard error has said it, unless the reader has gone away.
+// Nothing is lent to them but the runtime, so an error leaves nothing changed.
+
+// The listing: a line a message, and the last with all bytes, all messages and all gap bytes.
 pub fn listing(rt: &HostRuntime) -> io::Result<()>
     ensures { IfOk result (λ u. u ≡ tt) }
 {
@@ -357,7 +362,7 @@ fn print_reasons(rt: &HostRuntime, recording: &mut [u8], text: &mut [u8]) -> io:
 }
 
 // Why each position of a short recording is or is not the first of a message. The text has room for 20 bytes a line and the heading, which no recording
-// needs more of (promises/proofs/Room.antt).
+// needs more of (promises/proofs/Room.antt). It answers an error as the programs over messages do.
 pub fn reasons(rt: &HostRuntime) -> io::Result<()>
     ensures { IfOk result (λ u. u ≡ tt) }
 {
@@ -368,14 +373,14 @@ pub fn reasons(rt: &HostRuntime) -> io::Result<()>
 
 // ---- how a program ends
 
-/// Says on standard error what failed and why, in the system's words: a line that begins with `error: `.
+// Says on standard error what failed and why, in the system's words: a line that begins with `error: `.
 pub fn say_failure(rt: &HostRuntime, what: &str, error: &io::Error)
     ensures { result ≡ tt }
 {
     failure::say(rt, what, error);
 }
 
-/// The exit status of a program whose run ended so: 0, or 141 where its reader has gone away, or 1.
+// The exit status of a program whose run ended so: 0, or 141 where its reader has gone away, or 1.
 #[tactic(auto, unfolding(crate::specs::Ends::status_of, crate::specs::Ends::status_by))]
 pub fn status(ended: io::Result<()>) -> u8
     ensures { result ≡ status_of ended }
