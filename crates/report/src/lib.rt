@@ -31,7 +31,7 @@ enum Printed {
 }
 
 // How far the recording is printed: as what; the messages, the gap bytes and all bytes so far; where the bytes of the buffer that are yet to be
-// divided begin and end; whether no more will come; the bytes of text that wait to be written; how it ends as it stands; and whether there is more to do.
+// divided begin and end; whether no more will come; the bytes of text that wait to be written; and whether there is more to do.
 #[derive(Clone, Copy)]
 struct Progress {
     printed: Printed,
@@ -42,7 +42,6 @@ struct Progress {
     end: usize,
     over: bool,
     waiting: usize,
-    ended: io::Result<()>,
     going: bool,
 }
 
@@ -75,8 +74,13 @@ fn keep(buffer: &mut [u8], from: usize, end: usize) -> usize {
     count
 }
 
-// Reads a block behind those that were kept. Where reading fails that is said, and the input is over.
-fn read_on(rt: &HostRuntime, progress: Progress, buffer: &mut [u8]) -> Progress {
+// Reads a block behind those that were kept. Where reading fails that is said and told, and the input is over.
+fn read_on(
+    rt: &HostRuntime,
+    progress: Progress,
+    buffer: &mut [u8],
+    outcome: &mut io::Result<()>,
+) -> Progress {
     let kept = keep(buffer, progress.from, progress.end);
     match blocks::read_behind(&mut rt.stdin(), buffer, kept) {
         Ok(got) => Progress {
@@ -87,11 +91,11 @@ fn read_on(rt: &HostRuntime, progress: Progress, buffer: &mut [u8]) -> Progress 
         },
         Err(error) => {
             say_failure(rt, "standard input", &error);
+            *outcome = Err(error);
             Progress {
                 from: 0,
                 end: kept,
                 over: true,
-                ended: Err(error),
                 ..progress
             }
         }
@@ -111,12 +115,17 @@ fn write_out(rt: &HostRuntime, text: &[u8], waiting: usize) -> io::Result<()> {
     written
 }
 
-// Nothing waits any more; where it cannot be written there is no more to do.
-fn written(rt: &HostRuntime, progress: Progress, text: &[u8]) -> Progress {
+// Nothing waits any more; where it cannot be written there is no more to do. What failed first is told.
+fn written(
+    rt: &HostRuntime,
+    progress: Progress,
+    text: &[u8],
+    outcome: &mut io::Result<()>,
+) -> Progress {
     let now = write_out(rt, text, progress.waiting);
+    *outcome = outcome.and(now);
     Progress {
         waiting: 0,
-        ended: progress.ended.and(now),
         going: now.is_ok(),
         ..progress
     }
@@ -161,6 +170,7 @@ fn given(
     text: &mut [u8],
     history: &mut [u64; history::WORDS],
     list: &mut [u64],
+    outcome: &mut io::Result<()>,
 ) -> Progress {
     let waiting = put_message(progress, message, text, history, list);
     let next = Progress {
@@ -171,7 +181,7 @@ fn given(
         ..progress
     };
     if waiting > 65536 {
-        return written(rt, next, text);
+        return written(rt, next, text, outcome);
     }
     next
 }
@@ -189,7 +199,12 @@ fn put_last(progress: Progress, text: &mut [u8]) -> usize {
 }
 
 // The end: the last line, and all that waits.
-fn ended(rt: &HostRuntime, progress: Progress, text: &mut [u8]) -> Progress {
+fn ended(
+    rt: &HostRuntime,
+    progress: Progress,
+    text: &mut [u8],
+    outcome: &mut io::Result<()>,
+) -> Progress {
     let waiting = put_last(progress, text);
     let last = written(
         rt,
@@ -198,6 +213,7 @@ fn ended(rt: &HostRuntime, progress: Progress, text: &mut [u8]) -> Progress {
             ..progress
         },
         text,
+        outcome,
     );
     Progress {
         going: false,
@@ -206,10 +222,16 @@ fn ended(rt: &HostRuntime, progress: Progress, text: &mut [u8]) -> Progress {
 }
 
 // The next block. What waits is written out before it, since a live line may keep a read waiting for as long as it likes.
-fn more(rt: &HostRuntime, progress: Progress, buffer: &mut [u8], text: &[u8]) -> Progress {
-    let next = written(rt, progress, text);
+fn more(
+    rt: &HostRuntime,
+    progress: Progress,
+    buffer: &mut [u8],
+    text: &[u8],
+    outcome: &mut io::Result<()>,
+) -> Progress {
+    let next = written(rt, progress, text, outcome);
     if next.going {
-        return read_on(rt, next, buffer);
+        return read_on(rt, next, buffer, outcome);
     }
     next
 }
@@ -222,6 +244,7 @@ fn turn(
     text: &mut [u8],
     history: &mut [u64; history::WORDS],
     list: &mut [u64],
+    outcome: &mut io::Result<()>,
 ) -> Progress {
     let rest = part(buffer, progress.from, progress.end);
     let passage = division::walk(progress.over, rest);
@@ -229,13 +252,21 @@ fn turn(
     match walked {
         Walked::Message(at, length, _) => {
             let message = part(rest, at, wrapping_add_usize(at, length));
-            given(rt, passed(progress, at), message, text, history, list)
+            given(
+                rt,
+                passed(progress, at),
+                message,
+                text,
+                history,
+                list,
+                outcome,
+            )
         }
         Walked::Unsettled(at) => {
             if progress.over {
-                return ended(rt, passed(progress, at), text);
+                return ended(rt, passed(progress, at), text, outcome);
             }
-            more(rt, passed(progress, at), buffer, text)
+            more(rt, passed(progress, at), buffer, text, outcome)
         }
     }
 }
@@ -258,9 +289,9 @@ fn print_recording(rt: &HostRuntime, printed: Printed, heading: &[u8]) -> io::Re
         end: 0,
         over: false,
         waiting: text::put_all(&mut text, 0, heading),
-        ended: Ok(()),
         going: true,
     };
+    let mut outcome = Ok(());
     for _ in 0..u64::MAX {
         progress = turn(
             rt,
@@ -269,12 +300,13 @@ fn print_recording(rt: &HostRuntime, printed: Printed, heading: &[u8]) -> io::Re
             &mut text,
             &mut history,
             &mut list,
+            &mut outcome,
         );
         if !progress.going {
             break;
         }
     }
-    progress.ended
+    outcome
 }
 
 // ---- the programs over messages
@@ -337,7 +369,7 @@ pub fn breaks(rt: &HostRuntime) -> io::Result<()>
 // ---- the account
 
 // Reads until the buffer is full, the input ends or reading fails, which is said and told: how many bytes there are.
-fn fill(rt: &HostRuntime, buffer: &mut [u8], ended: &mut io::Result<()>) -> usize {
+fn fill(rt: &HostRuntime, buffer: &mut [u8], outcome: &mut io::Result<()>) -> usize {
     let mut count = 0;
     for _ in 0..buffer.len() {
         match blocks::read_behind(&mut rt.stdin(), buffer, count) {
@@ -345,7 +377,7 @@ fn fill(rt: &HostRuntime, buffer: &mut [u8], ended: &mut io::Result<()>) -> usiz
             Ok(got) => count = wrapping_add_usize(count, got),
             Err(error) => {
                 say_failure(rt, "standard input", &error);
-                *ended = Err(error);
+                *outcome = Err(error);
                 break;
             }
         }
@@ -355,10 +387,10 @@ fn fill(rt: &HostRuntime, buffer: &mut [u8], ended: &mut io::Result<()>) -> usiz
 
 // One byte more than fits is read, to see whether the recording is longer.
 fn print_reasons(rt: &HostRuntime, recording: &mut [u8], text: &mut [u8]) -> io::Result<()> {
-    let mut ended = Ok(());
-    let count = fill(rt, recording, &mut ended);
+    let mut outcome = Ok(());
+    let count = fill(rt, recording, &mut outcome);
     let waiting = account::put_report(text, 0, part(recording, 0, count));
-    ended.and(write_out(rt, text, waiting))
+    outcome.and(write_out(rt, text, waiting))
 }
 
 // Why each position of a short recording is or is not the first of a message. The text has room for 20 bytes a line and the heading, which no recording
