@@ -107,6 +107,7 @@ fn rounded(amount: u64) -> u64
 }
 
 // The rest decides only where the sum is negative: it then lies between two whole numbers, and the one nearer to zero is rounded.
+#[tactic(auto, using(crate::proofs::RollSteps::behind_met))]
 fn rolls_of(range: u64, adr: i64) -> i64
     requires { (range < 68719476736) × (mag adr < 2147483648) }
     ensures { (result ≡ rolls_of range adr) × (mag result < 1024) }

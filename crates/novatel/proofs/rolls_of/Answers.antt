@@ -5,7 +5,7 @@ use mir.Syntax.{w64}
 use mir.ValLaws.{to_z-of_z}
 use Rattle.octets.specs.Signed.{raw_of}
 use Rattle.octets.proofs.Signed.{raw_fits}
-use Rattle.novatel.proofs.RollSteps.{rolls_ahead, rolls_still, rolls_behind, rolls_between}
+use Rattle.novatel.proofs.RollSteps.{rolls_ahead, rolls_still, rolls_between}
 use Rattle.novatel.proofs.rolls_of.Goals as goal
 
 pub returns-then-raw-lt2147483648 : goal.returns-then-raw-lt2147483648
@@ -36,20 +36,6 @@ returns-then-sum-ge4294967296 c =
     let back = to_z-of_z w64 c.above-then-sum-ge4294967296.result (record { sfits = c.above-then-sum-ge4294967296.type_inv }) in
     (back ∙ e.0 ∙ done, rw back e.1)
 
-pub returns-then-rest-eq0 : goal.returns-then-rest-eq0
-returns-then-rest-eq0 c =
-    let start = c in
-    let raw = c.raw_in-raw in
-    let parts = c.in_cycles-cycles in
-    let z = to_z-of_z w64 start.args.adr start.ranges.adr in
-    let e = c.below.ensures in
-    let q = c.rounded-then-rest-eq0 in
-    let w = raw.ensures ∙ ap (raw_of 2147483648) z in
-    let done = rolls_behind start.args.adr raw.result start.requires.1 w start.args.range parts.result.whole parts.result.rest q.result parts.ensures.0 parts.ensures.1
-    c.if-raw-lt2147483648.false (omega (arith, raw_fits 2147483648 start.args.adr start.requires.1, w)) c.if-sum-ge4294967296.false c.if-rest-eq0.true q.ensures.0 q.ensures.1 in
-    let back = to_z-of_z w64 c.below.result (record { sfits = c.below.type_inv }) in
-    (back ∙ e.0 ∙ done, rw back e.1)
-
 pub returns : goal.returns
 returns c =
     let start = c in
@@ -60,6 +46,6 @@ returns c =
     let q = c.rounded-2 in
     let w = raw.ensures ∙ ap (raw_of 2147483648) z in
     let done = rolls_between start.args.adr raw.result start.requires.1 w start.args.range parts.result.whole parts.result.rest q.result parts.ensures.0 parts.ensures.1
-    c.if-raw-lt2147483648.false (omega (arith, raw_fits 2147483648 start.args.adr start.requires.1, w)) c.if-sum-ge4294967296.false c.if-rest-eq0.false q.ensures.0 q.ensures.1 in
+    c.if-raw-lt2147483648.false (omega (arith, raw_fits 2147483648 start.args.adr start.requires.1, w)) c.if-sum-ge4294967296.false (omega arith) q.ensures.0 q.ensures.1 in
     let back = to_z-of_z w64 c.below-2.result (record { sfits = c.below-2.type_inv }) in
     (back ∙ e.0 ∙ done, rw back e.1)
