@@ -5,7 +5,7 @@ ghost use Rattle.std.specs.Prelude.{◌≡◌};
 ghost use Rattle.argument.specs.Small.{small_number};
 
 // A word: a number from 0 to 255 in decimal digits, or anything else.
-#[derive(Drop)]
+#[derive(Clone, Copy)]
 pub enum Small {
     Number(u8),
     Other,

@@ -11,7 +11,7 @@ ghost use Rattle.novatel.specs.Rolls.{rolls_of, corrected_of};
 
 use refusal::{Refusal, Written};
 
-// The fields of a record: Doppler in 1/256 Hz, range in 1/128 m, ADR in 1/256 cycle, the deviations' codes, lock in 1/32 s, C/N0 in d_b_Hz.
+// The fields of a record: Doppler in 1/256 Hz, range in 1/128 m, ADR in 1/256 cycle, the deviations' codes, lock in 1/32 s, C/N0 in dB-Hz.
 #[derive(Clone, Copy)]
 pub struct Record {
     pub status: u64,

@@ -30,7 +30,7 @@ use Rattle.history.proofs.CallSteps.{call_passes_over}
 use Rattle.lines.specs.Breaks.{breaks_text}
 use Rattle.promises.specs.Again.{observations_of}
 use Rattle.promises.specs.Run.{Run, refused, unfinished, ended, gave}
-use Rattle.promises.specs.Given as goal
+use Rattle.promises.specs.Given as given
 use Rattle.promises.specs.Reason.{messages}
 use Rattle.promises.specs.History.{PassedOver, seen_in, lists_since, breaks_since, history_of, of_sid, entries_of}
 use Rattle.promises.specs.HistoryCalls.{Told, listed, calls, owed_by, owed, Every, Message, given_in}
@@ -70,13 +70,13 @@ pub calls_list_the_history : (type : ℕ) (lists : ℕ → List ℕ) (ms : List 
 calls_list_the_history type lists ms room h = calls_owe type lists ms room (every_bytes ms h) ∙ owed_listed type ms [] h
 
 -- ---- of a recording's messages, as the division gives them
-given_messages : (r : Run) → ((p : ℕ) (m : List ℕ) → goal.Given r p m → Message m) → Every Message (given_in r)
+given_messages : (r : Run) → ((p : ℕ) (m : List ℕ) → given.Given r p m → Message m) → Every Message (given_in r)
 given_messages (refused r) h = tt
 given_messages unfinished h = tt
 given_messages (ended g) h = tt
 given_messages (gave g m r) h = (h g m (inl (refl, refl)), given_messages r (λ p m' q. later p m' q))
   where
-    later : (p : ℕ) (m' : List ℕ) → goal.Given r p m' → Message m'
+    later : (p : ℕ) (m' : List ℕ) → given.Given r p m' → Message m'
     later p m' q =
         let before = g + length m in
         let z : p + before - before ≡ p = omega arith in
@@ -91,7 +91,7 @@ pub recording_listed : (type : ℕ) (lists : ℕ → List ℕ) (s : List ℕ) �
 recording_listed type lists s room b = calls_list_the_history type lists (given_in (messages s)) room (recording_messages s b)
 
 -- and the program, which runs no checksum again, prints what such a call lists
-pub breaks_printed : (position : ℕ) (m recording ws list : List ℕ) → goal.Given (messages recording) position m → breaks_text position (claimed_call m ws list) ≡ breaks_text position (next_call m ws list)
+pub breaks_printed : (position : ℕ) (m recording ws list : List ℕ) → given.Given (messages recording) position m → breaks_text position (claimed_call m ws list) ≡ breaks_text position (next_call m ws list)
 breaks_printed position m recording ws list g =
     let a = accepted_so m (valid_if_given recording position m g).0.accepted in
     ap (λ head. breaks_text position (call_by head m ws list)) (claimed_head_lem m a.0 a.1 a.2)
