@@ -1,40 +1,39 @@
 # What works in the project alone: proving and building, the gate, the release, the fuzz and the bench. `cablesound` takes this file in.
 . "$root/tools/machine.sh"
 
-# CRATE: what is made of it. The exports for C are in board.
+# CRATE: what is made of it. The exports for C are in board_c, and its archive keeps the name that C hosts link.
 made_of() {
     case $1 in
-    board) echo target/staticlib/libboard.a ;;
+    board_c) echo target/staticlib/libboard.a ;;
     *) echo "target/bin/$1" ;;
     esac
 }
 
-# CRATE...: these and all that they rest on, in the order in which rt proves them: those that rest on nothing first, then those that rest on these alone.
+# CRATE...: these and all that they rest on, in the order in which rt proves them: each behind those that it names, as it names them.
 resting_on() {
     awk -v wanted="$*" '
         function visit(name,    list, count, i) {
-            if (!(name in needs) || name in level) return
-            level[name] = 0
+            if (!(name in needs) || name in seen) return
+            seen[name]
             count = split(needs[name], list, " ")
-            for (i = 1; i <= count; i++) {
-                visit(list[i])
-                if (list[i] in level && level[list[i]] >= level[name]) level[name] = level[list[i]] + 1
-            }
-            print level[name], name
+            for (i = 1; i <= count; i++) visit(list[i])
+            print name
         }
         { sub(/#.*/, "") }
-        split($0, part, ":") == 2 { needs[part[1]] = part[2] }
+        split($0, part, ":") == 2 { sub(/ .*/, "", part[1]); needs[part[1]] = part[2] }
         END {
             count = split(wanted, list, " ")
             for (i = 1; i <= count; i++) visit(list[i])
-        }' crates.txt | sort -s -n -k 1,1 | cut -d ' ' -f 2
+        }' crates.txt
 }
 
-# CRATE...: those of them of which nothing is made yet, or that rest on something that has changed since.
+# CRATE...: those of them of which nothing is made yet, or that rest on something that has changed since. What rt keeps in a crate's out/ is no part of
+# it, and neither is the time at which that folder came or went.
 outdated() {
     for crate in "$@"; do
         made=$(made_of "$crate")
-        [ -f "$made" ] && [ -z "$(find crates.txt $(resting_on "$crate" | sed 's|^|crates/|') -newer "$made" -print -quit)" ] || echo "$crate"
+        [ -f "$made" ] && [ -z "$(find crates.txt $(resting_on "$crate" | sed 's|^|crates/|') \
+            -name out -prune -o \( -type f -o -path 'crates/*/*' \) -newer "$made" -print -quit)" ] || echo "$crate"
     done
 }
 
@@ -57,36 +56,32 @@ through() {
     return "$status"
 }
 
-# Says which crate of the plan is being proved, the first of which rt has printed nothing yet, and keeps what rt prints.
+# Says which crate of the plan is being proved, each as rt begins with it, and keeps what rt prints. What is proved already rt passes over in silence.
 announce_proofs() {
     set -- $plan
-    count=$#
+    count=$# begun=$1
     announce "proving $1, 1 of $count"
     while IFS= read -r line; do
         printf '%s\n' "$line"
         case $line in
-        'rt: '*' proved ('*)
-            [ $# -eq 0 ] || shift
-            [ $# -eq 0 ] || announce "proving $1, $((count - $# + 1)) of $count"
+        'rt: chose --jobs '*" for $begun") ;;
+        'rt: chose --jobs '*' for '*)
+            begun=${line##* }
+            place=$(printf '%s\n' "$@" | grep -nxF -e "$begun" | cut -d : -f 1)
+            [ -z "$place" ] || announce "proving $begun, $place of $count"
             ;;
         esac
     done >target/check.log
     [ ! -t 2 ] || unshow
 }
 
-# CRATE...: proves them and all that they rest on.
+# CRATE...: proves them and all that they rest on, and builds them.
 prove() {
     plan=$(resting_on "$@")
-    through announce_proofs rt check "$@" || fail "not proved: $*: see target/check.log"
+    through announce_proofs sh tools/prove.sh "$@" || fail "not proved: $*: see target/check.log"
 }
 
-archive() {
-    announce "proving board, for the archive"
-    await setsid rt staticlib board >target/archive.log 2>&1 || fail "the archive was not built: see target/archive.log"
-    [ ! -t 2 ] || unshow
-}
-
-# CRATE...: programs, or board for the archive: proves and builds those that are out of date. Of two runs that want to, one waits.
+# CRATE...: programs, or board_c for the archive: proves and builds those that are out of date. Of two runs that want to, one waits.
 provide() {
     here=$PWD
     cd "$root" || exit 2
@@ -104,9 +99,6 @@ provide() {
 renew() {
     [ $# -gt 0 ] || return 0
     prove "$@"
-    case " $* " in
-    *' board '*) archive ;;
-    esac
     for crate in "$@"; do
         touch "$(made_of "$crate")"
     done
@@ -149,7 +141,7 @@ need_emulation() {
 
 # What support and a C host need where there is no toolchain, in one folder that can be copied anywhere.
 build() {
-    provide $programs board
+    provide $programs board_c
     mkdir -p build/help build/tools build/samples &&
         cp -f cablesound release/* include/cablesound.h tests/host/recording.c build/ &&
         cp -f target/staticlib/libboard.a build/libcablesound.a &&
@@ -166,7 +158,7 @@ fuzz() {
     '' | *[!0-9]*) fail "fuzz needs a number of seconds" ;;
     esac
     need_emulation
-    provide board
+    provide board_c
     cd tests && await setsid $cargo run --offline --locked --quiet --bin fuzz -- "$@"
 }
 
@@ -209,13 +201,29 @@ bench() {
 # Keeps what rt prints, and its tally back.
 hold_tally() { tee "$work/log" | grep --line-buffered -Ev '^[0-9]+ passed, [0-9]+ failed$'; }
 
+# Whether all is well by what rt printed. A wrong version that does not apply or does not compile is bad: it shows nothing, and rt passes it with a word.
+need_tally() {
+    grep -q '^rt: ok;' "$work/log" || fail "rt ci does not say that all is well"
+    ! grep -E '^rt: ok;.*, [0-9]+ bad(;|$)' "$work/log" >"$work/bad" || fail "rt ci passes wrong versions that show nothing: $(cat "$work/bad")"
+    tail -n 1 "$work/log" | grep -Eqx '[0-9]+ passed, 0 failed' || fail "rt ci ends with: $(tail -n 1 "$work/log")"
+}
+
+# The programs that rt ci has built and run.
+take() {
+    mkdir -p target/bin
+    for program in $programs; do
+        cp -f "crates/$program/out/$program" target/bin/ || fail "rt ci leaves no program $program"
+    done
+}
+
 # The gate. rt's own tally is held back until everything else has passed, so that it is the very last line.
 gate() {
     need_rt
     need_emulation
-    rt fmt --check || fail "a file is not in the layout: run 'rt fmt'"
     through hold_tally rt ci || fail "rt ci failed: $(tail -n 1 "$work/log")"
-    archive
+    need_tally
+    take
+    renew board_c
     for test in tests/*.sh; do
         await setsid sh "$test" || fail "$test failed"
     done
