@@ -1,32 +1,68 @@
 #!/bin/sh
-# Every public function of a library has its theorem NAME-determined in its own crate's proofs/Determined.antt, stated of that function's own contract,
-# or, for an entry over a lent struct, of the claim NAME-learnt that is read off its own clauses there; or a line `CRATE::NAME: why` under the exceptions
-# of docs/PROMISES.md. And docs/PROMISES.md names it in its crate's row, and demand 1's file says that it asks nothing, but for the programs' own.
+# Every public function of a library has its theorem NAME_determined in its own crate's proofs/Determined.antt, stated of that function's own contract: two
+# answers are equal, or the same by SamePart or, for the programs' own, by SameWell, as owed has them. What has none has a line `CRATE::NAME: why` under the
+# exceptions of docs/PROMISES.md. And docs/PROMISES.md names it in its crate's row, and demand 1's file says of that function that it asks nothing, but for
+# the programs' own. An export for C owes none of this, since it is board's function of its name: that is for tests/exports.sh to say, which is asked here.
 # This reads text only: that the theorems hold is rt's to say.
 set -u
 root=$(cd "$(dirname "$0")/.." && pwd -P)
 cd "$root" || exit 2
 failed=0 found=0
-for crate in $(sed 's/#.*//; s/:.*//' crates.txt); do
+
+# FILE MODULE: the name by which the file cites this module; nothing where it does not.
+cited() { sed -n "s/^use $2 as \([A-Za-z_']*\)$/\1/p" "$1" 2>/dev/null | head -n 1; }
+
+# FILE WORD...: whether the file takes these words from owed.
+takes() {
+    file=$1
+    shift
+    for word in "$@"; do
+        grep -Eq "^use Rattle\.owed\.specs\.(Determined|Meets)\.\{([A-Za-z]+, )*$word(, [A-Za-z]+)*\}$" "$file" || return 1
+    done
+}
+
+# NAME WORD BY: whether its theorem is stated so, in the file and by the names that has_theorem has found.
+stated() { grep -Eq "^pub $1_determined : $2 $contracts\.(([A-Za-z_]+\.)*$1)\.ended $3$proofs\.\1\.Reads\.Learnt$" "$laws"; }
+
+# CRATE NAME: whether its theorem stands there.
+has_theorem() {
+    laws=crates/$1/proofs/Determined.antt
+    contracts=$(cited "$laws" "Rattle\.$1\.specs\.contracts") proofs=$(cited "$laws" "Rattle\.$1\.proofs")
+    [ -n "$contracts" ] && [ -n "$proofs" ] || return 1
+    stated "$2" Determined '' && takes "$laws" Determined && return 0
+    for relation in SamePart SameWell; do
+        [ "$relation" = SamePart ] || [ "$1" = report ] || continue
+        stated "$2" DeterminedBy "\(λ κs z z'\. $relation z z'\) " && takes "$laws" DeterminedBy "$relation" && return 0
+    done
+    return 1
+}
+
+# CRATE NAME: whether demand 1's file says of it that it asks nothing.
+asks_nothing() {
+    demand=crates/promises/proofs/DemandOne.antt
+    contracts=$(cited "$demand" "Rattle\.$1\.specs\.contracts") proofs=$(cited "$demand" "Rattle\.$1\.proofs")
+    [ -n "$contracts" ] && [ -n "$proofs" ] && takes "$demand" AsksNothing &&
+        grep -Eq "^ +(× )?AsksNothing $contracts\.(([A-Za-z_]+\.)*$2)\.ended $proofs\.\2\.Reads\.Asked$" "$demand"
+}
+
+for crate in $(sed 's/#.*//; s/:.*//; s/ .*//' crates.txt); do
     [ -f "crates/$crate/src/lib.rt" ] || continue
-    laws=crates/$crate/proofs/Determined.antt
+    if [ "$crate" = board_c ]; then
+        sh tests/exports.sh >/dev/null && continue
+        echo "determined: the exports of board_c are not board's functions"
+    fi
     for name in $(sed -n 's/^ *pub \(extern "C" \)\{0,1\}fn \([a-z0-9_]*\).*/\2/p' "crates/$crate"/src/*.rt); do
-        law=$(printf %s "$name" | tr _ -)-determined
-        where="$crate\.([A-Za-z_]+\.)*$name"
-        walked=$(printf %s "$name" | tr _ -)-learnt
-        if grep -Eq "^pub $law : Determined(By)? $where\.ended (\(λ κs z z′\. SamePart z z′\) )?$where\.Reads\.Learnt$" "$laws" 2>/dev/null; then
-            found=$((found + 1))
-        elif grep -Eq "^abbrev pub $walked : Claim $where\.ended$" "$laws" 2>/dev/null && grep -Eq "^pub $law : Determined $where\.ended $walked$" "$laws"; then
+        if has_theorem "$crate" "$name"; then
             found=$((found + 1))
         elif ! grep -q "^- \`$crate::$name\`: " docs/PROMISES.md; then
-            echo "determined: $crate::$name has no theorem $law and no exception"
+            echo "determined: $crate::$name has no theorem ${name}_determined and no exception"
             failed=1
         fi
         if ! grep -Eq "^\| \`$crate\` \|.*(\`|::)$name\`" docs/PROMISES.md; then
             echo "determined: docs/PROMISES.md does not name $crate::$name"
             failed=1
         fi
-        if [ "$crate" != report ] && ! grep -Eq "(AsksNothing [a-z]+\.([A-Za-z]+\.)?$name\.ended|$crate\.$name\.clauses .* \.requires)" crates/promises/proofs/DemandOne.antt; then
+        if [ "$crate" != report ] && ! asks_nothing "$crate" "$name"; then
             echo "determined: crates/promises/proofs/DemandOne.antt does not say that $crate::$name asks nothing"
             failed=1
         fi
