@@ -1,8 +1,8 @@
 #!/bin/sh
 # The C host of tests/host/ reads the published messages, every case of a phase, S12, and A then B through the C boundary, compiled plainly and with
 # sanitizers, and prints what tests/host/expected.txt says; another one prints the reasons that the program `why` prints, a third one the published range
-# record, a fourth one the breaks of lock that `breaks` prints; the header is taken by C and by C++. Needs target/staticlib/libboard.a, which
-# `rt staticlib board` leaves.
+# record, a fourth one the breaks of lock that `breaks` prints; the header is taken by C and by C++. Needs target/bin and target/staticlib/libboard.a,
+# which the gate and `./cablesound build` leave.
 set -u
 root=$(cd "$(dirname "$0")/.." && pwd -P) || exit 2
 cd "$root" || exit 2
@@ -13,7 +13,7 @@ fail() {
     exit 1
 }
 . tools/machine.sh
-[ -f "$archive" ] || fail "no $archive: run 'rt staticlib board' first"
+[ -f "$archive" ] || fail "no $archive: run './cablesound build' first"
 rm -rf "$work" && mkdir -p "$work" || exit 2
 
 # build NAME SOURCE OPTION...: the host of this source, under this name, with these options

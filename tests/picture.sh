@@ -1,6 +1,6 @@
 #!/bin/sh
 # `./cablesound plot`: what the picture is drawn from, the picture where there is a gnuplot, and what is said around the drawing. Needs target/bin, which
-# `rt ci` leaves.
+# the gate and `./cablesound build` leave.
 set -u
 root=$(cd "$(dirname "$0")/.." && pwd -P) || exit 2
 cd "$root" || exit 2

@@ -1,6 +1,6 @@
 #!/bin/sh
 # The stored outputs are what the second reader prints, and `./cablesound` runs the programs on files, standard input and a live line, with a clear line
-# and an exit status for bad input, and a screen of help. Needs target/bin, which `rt ci` leaves. That the programs print the same on many streams is among
+# and an exit status for bad input, and a screen of help. Needs target/bin, which the gate and `./cablesound build` leave. That the programs print the same on many streams is among
 # the tests of tests/readers.sh.
 set -u
 root=$(cd "$(dirname "$0")/.." && pwd -P) || exit 2
@@ -92,7 +92,7 @@ cmp -s target/said.out target/empty.listing || fail "what was read before an err
 shell_says 1 'error: standard output: No space left on device' './cablesound list samples/sortie.macm >/dev/full'
 shell_says 1 'error: standard output: No space left on device' './cablesound rows <samples/sortie.macm >/dev/full'
 shell_says 1 'error: standard output: Bad file descriptor' './cablesound list samples/sortie.macm >&-'
-shell_says 0 'error: standard input: Bad file descriptor' "$emulator target/bin/listing <&-"
+shell_says 1 'error: standard input: Bad file descriptor' "$emulator target/bin/listing <&-"
 says 2 "$(printf 'cablesound: no such command: list rows\n' && ./cablesound help)" ./cablesound 'list rows'
 shell_says 1 'cablesound: standard output cannot be written' './cablesound help >/dev/full'
 for word in '' -1 +1 1.5 abc 0x10 ' 1'; do
@@ -137,9 +137,19 @@ refuses 'cablesound: standard input is closed' sh -c './cablesound breaks 0 <&-'
 shell_says 1 'error: standard input: Is a directory' './cablesound breaks 0 <samples'
 shell_says 1 'error: standard output: No space left on device' './cablesound breaks 0 samples/locks.macm >/dev/full'
 
+# A program by itself: the status says what its line says, but for a TYPE that is none, of which the line alone tells.
+shell_says 1 'error: standard output: No space left on device' "$emulator target/bin/listing <samples/sortie.macm >/dev/full"
+shell_says 1 'error: standard input: Is a directory' "$emulator target/bin/breaks 0 <samples"
+shell_says 0 'error: the argument has to be a TYPE, 0 to 255 in decimal digits' "$emulator target/bin/breaks 256 <samples/locks.macm"
+[ ! -s target/said.out ] || fail "breaks prints something of what is no TYPE"
+
 # A reader that goes away early is no error: more is printed than a pipe holds.
 shell_says 0 '' './cablesound rows target/long.macm | head -n 1'
 shell_says 0 '' 'trap "" PIPE; ./cablesound rows target/long.macm | head -n 1'
+for command in './cablesound rows' "$emulator target/bin/rows"; do
+    shell_says 0 '' "{ $command <target/long.macm; echo \$? >target/ended; } | head -n 1"
+    [ "$(cat target/ended)" = 141 ] || fail "where nobody reads '$command' ends with $(cat target/ended)"
+done
 shell_says 0 '' './cablesound why samples/sortie.macm | head -n 1'
 cp samples/locks.macm target/locks.macm || exit 2
 for _ in 1 2 3 4 5 6 7 8 9 10; do cat target/locks.macm target/locks.macm >target/twice.macm && mv target/twice.macm target/locks.macm; done

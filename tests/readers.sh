@@ -1,13 +1,13 @@
 #!/bin/sh
-# The second reader against the C boundary: every test of the Rust workspace in tests/, offline. Needs target/staticlib/libboard.a, which
-# `rt staticlib board` leaves. What is built stands in target/cargo.
+# The second reader against the C boundary: every test of the Rust workspace in tests/, offline. Needs target/bin and target/staticlib/libboard.a,
+# which the gate and `./cablesound build` leave. What is built stands in target/cargo.
 set -u
 root=$(cd "$(dirname "$0")/.." && pwd -P) || exit 2
 cd "$root/tests" || exit 2
 archive=$root/target/staticlib/libboard.a
 log=$root/target/readers.log
 if [ ! -f "$archive" ]; then
-    echo "readers: FAILED: no target/staticlib/libboard.a: run 'rt staticlib board' first"
+    echo "readers: FAILED: no target/staticlib/libboard.a: run './cablesound build' first"
     exit 1
 fi
 . "$root/tools/machine.sh"

@@ -1,7 +1,7 @@
 #!/bin/sh
 # What appears on a terminal while one waits: how far a long recording is read, and what is being proved on the first use. Programs and an rt that take
-# their time stand in for the real ones; that rt's own lines are what the command looks for is seen in target/log, which the gate leaves.
-# Needs build/, which tests/release.sh leaves, and `script`, which lends a terminal.
+# their time stand in for the real ones; that rt's own lines are what the command looks for is seen where rt itself proves crates of each kind that nobody
+# has proved before. Needs build/, which tests/release.sh leaves, and `script`, which lends a terminal.
 set -u
 root=$(cd "$(dirname "$0")/.." && pwd -P) || exit 2
 fail() {
@@ -44,15 +44,16 @@ mkdir -p crates/first crates/second crates/listing crates/unused || exit 2
 printf 'first:\nlisting: second io # a program\nunused: first\nsecond: first\n' >crates.txt
 cat >"$work/bin/rt" <<'STUB'
 #!/bin/sh
-echo "$@" >>calls
-[ ! -e broken ] || { echo 'rt: first NOT PROVED (exit 1, 1 s)' && exit 1; }
+crate=${PWD##*/}
+cd ../.. && echo "$crate: $*" >>calls
+[ ! -e broken ] || { echo 'logic=not-proved functions=0' >&2 && exit 1; }
 [ ! -e slow ] || { sleep 60 & echo $! >prover && wait; }
-for crate in first second listing; do
-    echo "fn $crate::main: proved"
-    echo "rt: $crate proved (1 s)"
+for each in first second listing; do
+    echo "rt: chose --jobs 2 for $each" >&2
+    echo "fn $each::main: proved" >&2
 done
-mkdir -p target/bin && printf '#!/bin/sh\necho listed\n' >target/bin/listing && chmod +x target/bin/listing
-echo 'rt: ok, 3 crates proved'
+mkdir -p "crates/$crate/out" && printf '#!/bin/sh\necho listed\n' >"crates/$crate/out/$crate" && chmod +x "crates/$crate/out/$crate"
+exec "crates/$crate/out/$crate"
 STUB
 chmod +x "$work/bin/rt"
 PATH=$work/bin:$PATH
@@ -63,7 +64,7 @@ proving=$(printf 'cablesound: proving first, 1 of 3\ncablesound: proving second,
 [ "$(./cablesound list </dev/null 2>&1)" = listed ] || fail "the second use says more"
 sleep 0.1 && touch crates/unused/changed
 [ "$(./cablesound list </dev/null 2>&1)" = listed ] || fail "it says more where something else has changed"
-[ "$(cat calls)" = 'check listing' ] || fail "rt is called otherwise: $(cat calls)"
+[ "$(cat calls)" = 'listing: run -- 0' ] || fail "rt is called otherwise: $(cat calls)"
 touch crates/second/changed
 [ "$(terminal './cablesound list </dev/null')" = "$(printf '%s\nlisted' "$proving")" ] || fail "after a change the terminal shows something else"
 [ "$(wc -l <calls)" -eq 2 ] || fail "after a change nothing is proved again"
@@ -76,7 +77,7 @@ rm -r broken calls target 2>/dev/null
 ./cablesound list </dev/null >one 2>&1 &
 ./cablesound list </dev/null >two 2>&1 || fail "one of two uses fails: $(cat two)"
 wait $! || fail "one of two uses fails: $(cat one)"
-[ "$(cat calls)" = 'check listing' ] || fail "two uses prove twice: $(cat calls)"
+[ "$(cat calls)" = 'listing: run -- 0' ] || fail "two uses prove twice: $(cat calls)"
 touch slow && rm -r target
 ./cablesound list </dev/null >printed 2>&1 &
 use=$!
@@ -85,7 +86,21 @@ kill "$use" && wait "$use" 2>/dev/null
 [ $? -eq 143 ] || fail "the first use does not end by the signal that it is sent"
 "$root/tests/soon" sh -c '! kill -0 "$(cat prover)" 2>/dev/null' || fail "a prover outlives the first use"
 
-for crate in $(sed 's/#.*//; s/:.*//' "$root/crates.txt"); do
-    grep -q "^rt: $crate proved (" "$root/target/log/$crate.out" || fail "rt says of $crate: $(tail -n 1 "$root/target/log/$crate.out")"
-done
+# ---- the same by rt itself, in crates of their own number: definitions, a library, a program, and in the end an archive
+rm -rf slow calls target crates && PATH=${PATH#*:} || exit 2
+number=$(date +%s%N)
+mkdir -p crates/first/src crates/first/specs crates/second/src crates/listing/src crates/board_c/src || exit 2
+printf 'first:\nsecond: first\nlisting: second\nboard_c staticlib: first second\n' >crates.txt
+printf '// Definitions alone.\n#![tactic(auto)]\n' >crates/first/src/lib.rt
+printf 'pub mod Number\n' >crates/first/specs/Lib.antt
+printf 'use Rattle.std.specs.Prelude.{ℕ}\n\nabbrev pub number : ℕ\nnumber = %s\n' "$number" >crates/first/specs/Number.antt
+contract='ghost use Rattle.std.specs.Prelude.{◌≡◌};\nghost use Rattle.first.specs.Number.{number};\n\n%b() -> u64\n'
+contract="$contract    ensures { result ≡ number }\\n{\\n    %s\\n}\\n"
+printf "#![tactic(auto)]\n\n$contract" 'pub fn read' "$number" >crates/second/src/lib.rt
+printf "#![tactic(auto)]\n\n$contract" '#[unsafe(no_mangle)]\npub extern "C" fn cs_read' 'second::read()' >crates/board_c/src/lib.rt
+printf '#![tactic(auto)]\n\nuse std::io;\n\nfn main(rt: HostRuntime) -> io::Result<()> {\n    println!(rt; "listed")\n}\n' >crates/listing/src/main.rt
+[ "$(./cablesound list </dev/null 2>said)" = listed ] || fail "what rt has built lists nothing: $(cat said target/check.log)"
+[ "$(cat said)" = "$proving" ] || fail "where rt proves the first use says: $(cat said)"
+sh tools/prove.sh board_c >log 2>&1 && [ -s target/staticlib/libboard.a ] || fail "rt makes no archive: $(tail -n 1 log)"
+grep -q '^rt: chose --jobs [0-9]* for board_c$' log || fail "of the archive rt says: $(tail -n 1 log)"
 echo "terminal: a long recording and the first use show how far they are, and only where somebody looks"

@@ -1,4 +1,4 @@
-//! Links the archive of the C boundary, which `rt staticlib board` leaves in the project's target/.
+//! Links the archive of the C boundary, which `./cablesound build` leaves in the project's target/.
 
 use std::path::Path;
 
@@ -7,7 +7,7 @@ fn main() {
     let archive = archives.join("libboard.a");
     println!("cargo:rerun-if-changed={}", archive.display());
     if !archive.exists() {
-        panic!("no {}: run `rt staticlib board` first", archive.display());
+        panic!("no {}: run `./cablesound build` first", archive.display());
     }
     println!("cargo:rustc-link-search=native={}", archives.display());
     println!("cargo:rustc-link-lib=static=board");

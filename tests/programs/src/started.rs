@@ -18,7 +18,7 @@ fn command(program: &Path) -> Command {
 fn running(program: &str, arguments: &[&str], says: Stdio) -> Child {
     let path = Path::new(env!("CARGO_MANIFEST_DIR")).join("../../target/bin").join(program);
     let child = command(&path).args(arguments).stdin(Stdio::piped()).stdout(Stdio::piped()).stderr(says).spawn();
-    child.unwrap_or_else(|error| panic!("{}: {error}: run `rt check {program}` first", path.display()))
+    child.unwrap_or_else(|error| panic!("{}: {error}: run `./cablesound build` first", path.display()))
 }
 
 /// The same; what it says stands among what the test says.
