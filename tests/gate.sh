@@ -57,6 +57,8 @@ grep -qx tested "$work/printed" || fail "it does not show what a test says"
 [ "$(cat "$CALLS")" = "$(printf 'project: ci\nboard_c: lib')" ] || fail "rt is called otherwise: $(cat "$CALLS")"
 gate 0 '97 passed, 0 failed' 0 "$test_passes" "$ok, 1 of them only by a limit; $last" '97 passed, 0 failed'
 gate 1 'cablesound: tests/one.sh failed' 0 'exit 1' "$ok; $last" '97 passed, 0 failed'
+gate 1 'cablesound: a test leaves a link, for which the next rt ci would refuse the project: ./target/left' 0 'ln -s nowhere target/left' "$ok; $last" \
+    '97 passed, 0 failed'
 gate 1 'cablesound: rt ci failed: 96 passed, 1 failed' 1 "$test_passes" 'rt: FAILED: listing' '96 passed, 1 failed'
 gate 1 'cablesound: rt ci failed: 97 passed, 0 failed' 1 "$test_passes" "$ok; $last" '97 passed, 0 failed'
 gate 1 "cablesound: rt ci passes wrong versions that show nothing: $ok, 2 bad; $last" 0 "$test_passes" "$ok, 2 bad; $last" '97 passed, 0 failed'

@@ -1,7 +1,7 @@
 #!/bin/sh
 # The stored outputs are what the second reader prints, and `./cablesound` runs the programs on files, standard input and a live line, with a clear line
-# and an exit status for bad input, and a screen of help. Needs target/bin, which the gate and `./cablesound build` leave. That the programs print the same on many streams is among
-# the tests of tests/readers.sh.
+# and an exit status for bad input, and a screen of help. Needs target/bin, which the gate and `./cablesound build` leave. That the programs print the same
+# on many streams is among the tests of tests/readers.sh.
 set -u
 root=$(cd "$(dirname "$0")/.." && pwd -P) || exit 2
 cd "$root" || exit 2
@@ -12,6 +12,10 @@ fail() {
 . tests/says
 . tools/machine.sh
 
+# A link stands outside the project, in which rt refuses it.
+work=$(mktemp -d) || exit 2
+trap 'rm -rf "$work"' EXIT
+
 sh samples/make.sh check || fail "a stored output is another"
 ./cablesound list samples/sortie.macm | cmp -s - samples/sortie.listing || fail "list prints something else than samples/sortie.listing"
 ./cablesound rows samples/sortie.macm | cmp -s - samples/sortie.rows || fail "rows prints something else than samples/sortie.rows"
@@ -21,7 +25,7 @@ printf 'at bytes form obs time\nend 0 messages 0 gap 0\n' >target/empty.listing
 ./cablesound list </dev/null | cmp -s - target/empty.listing || fail "list of nothing"
 (cd samples && ../cablesound list sortie.macm) | cmp -s - samples/sortie.listing || fail "list takes a name from another folder than the caller's"
 cat samples/sortie.macm | ./cablesound list /dev/stdin | cmp -s - samples/sortie.listing || fail "list of a pipe"
-ln -sf ../cablesound target/linked && target/linked list samples/sortie.macm | cmp -s - samples/sortie.listing || fail "list by a link to the command"
+ln -s "$root/cablesound" "$work/linked" && "$work/linked" list samples/sortie.macm | cmp -s - samples/sortie.listing || fail "list by a link to the command"
 
 # Ranges by the printed factor, as rows had them before E2, and those of the same PR since: the README's line tells them apart, and its factor mends them.
 printf '%s\n' '20572019.760204 20572019.767066' '23610834.011859 23610834.019735' '29949999.996451 29950000.006442' '42919960.065605 42919960.079922' >target/ranges
@@ -75,9 +79,9 @@ if truncate -s 1T target/endless.macm 2>/dev/null; then
         timeout 20 ./cablesound why target/endless.macm 1099511627776
 fi
 rm -f target/endless.macm
-rm -rf target/names && mkdir target/names && cp target/s12.macm target/names/-s12 && cp target/s12.macm 'target/names/a name' && ln -s ../s12.macm target/names/link || exit 2
+mkdir "$work/names" && cp target/s12.macm "$work/names/-s12" && cp target/s12.macm "$work/names/a name" && ln -s "$root/target/s12.macm" "$work/names/link" || exit 2
 for name in -s12 'a name' link; do
-    [ "$(cd target/names && ../../cablesound why "$name" 4)" = '4 inside 3' ] || fail "why of a file that is called '$name'"
+    [ "$(cd "$work/names" && "$root/cablesound" why "$name" 4)" = '4 inside 3' ] || fail "why of a file that is called '$name'"
 done
 [ "$(./cablesound why /dev/stdin 3 <target/s12.macm)" = '3 given 16' ] || fail "why of standard input that is a file"
 

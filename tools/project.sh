@@ -227,6 +227,8 @@ gate() {
     for test in tests/*.sh; do
         await setsid sh "$test" || fail "$test failed"
     done
+    left=$(find . -path ./.git -prune -o -type l -print -quit)
+    [ -z "$left" ] || fail "a test leaves a link, for which the next rt ci would refuse the project: $left"
     tail -n 1 "$work/log"
 }
 

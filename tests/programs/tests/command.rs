@@ -22,7 +22,7 @@ fn release(name: &str) -> PathBuf {
         std::fs::copy(root.join(file), folder.join(file)).expect(file);
     }
     for program in ["listing", "why"] {
-        std::os::unix::fs::symlink(root.join("target/bin").join(program), folder.join(program)).expect(program);
+        std::fs::copy(root.join("target/bin").join(program), folder.join(program)).expect(program);
     }
     folder
 }
