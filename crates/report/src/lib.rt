@@ -77,27 +77,22 @@ fn keep(buffer: &mut [u8], from: usize, end: usize) -> usize {
 // Reads a block behind those that were kept. Where reading fails that is said and told, and the input is over.
 fn read_on(
     rt: &HostRuntime,
-    progress: Progress,
+    progress: &mut Progress,
     buffer: &mut [u8],
     outcome: &mut io::Result<()>,
-) -> Progress {
+) {
     let kept = keep(buffer, progress.from, progress.end);
+    progress.from = 0;
     match blocks::read_behind(&mut rt.stdin(), buffer, kept) {
-        Ok(got) => Progress {
-            from: 0,
-            end: wrapping_add_usize(kept, got),
-            over: got == 0,
-            ..progress
-        },
+        Ok(got) => {
+            progress.end = wrapping_add_usize(kept, got);
+            progress.over = got == 0;
+        }
         Err(error) => {
             say_failure(rt, "standard input", &error);
             *outcome = Err(error);
-            Progress {
-                from: 0,
-                end: kept,
-                over: true,
-                ..progress
-            }
+            progress.end = kept;
+            progress.over = true;
         }
     }
 }
@@ -116,24 +111,16 @@ fn write_out(rt: &HostRuntime, text: &[u8], waiting: usize) -> io::Result<()> {
 }
 
 // Nothing waits any more; where it cannot be written there is no more to do. What failed first is told.
-fn written(
-    rt: &HostRuntime,
-    progress: Progress,
-    text: &[u8],
-    outcome: &mut io::Result<()>,
-) -> Progress {
+fn written(rt: &HostRuntime, progress: &mut Progress, text: &[u8], outcome: &mut io::Result<()>) {
     let now = write_out(rt, text, progress.waiting);
     *outcome = outcome.and(now);
-    Progress {
-        waiting: 0,
-        going: now.is_ok(),
-        ..progress
-    }
+    progress.waiting = 0;
+    progress.going = now.is_ok();
 }
 
 // What is printed of a message; the breaks go by a history, and through a list.
 fn put_message(
-    progress: Progress,
+    progress: &Progress,
     message: &[u8],
     text: &mut [u8],
     history: &mut [u64; history::WORDS],
@@ -153,41 +140,33 @@ fn put_message(
 // ---- the division
 
 // So many gap bytes.
-fn passed(progress: Progress, count: usize) -> Progress {
-    Progress {
-        gap: wrapping_add_u64(progress.gap, count as u64),
-        position: wrapping_add_u64(progress.position, count as u64),
-        from: wrapping_add_usize(progress.from, count),
-        ..progress
-    }
+fn passed(progress: &mut Progress, count: usize) {
+    progress.gap = wrapping_add_u64(progress.gap, count as u64);
+    progress.position = wrapping_add_u64(progress.position, count as u64);
+    progress.from = wrapping_add_usize(progress.from, count);
 }
 
 // A message. What waits is written out where it is much, so that a message's text always has room behind it: of 255 rows none takes 250 bytes.
 fn given(
     rt: &HostRuntime,
-    progress: Progress,
+    progress: &mut Progress,
     message: &[u8],
     text: &mut [u8],
     history: &mut [u64; history::WORDS],
     list: &mut [u64],
     outcome: &mut io::Result<()>,
-) -> Progress {
-    let waiting = put_message(progress, message, text, history, list);
-    let next = Progress {
-        messages: wrapping_add_u64(progress.messages, 1),
-        position: wrapping_add_u64(progress.position, message.len() as u64),
-        from: wrapping_add_usize(progress.from, message.len()),
-        waiting,
-        ..progress
-    };
-    if waiting > 65536 {
-        return written(rt, next, text, outcome);
+) {
+    progress.waiting = put_message(progress, message, text, history, list);
+    progress.messages = wrapping_add_u64(progress.messages, 1);
+    progress.position = wrapping_add_u64(progress.position, message.len() as u64);
+    progress.from = wrapping_add_usize(progress.from, message.len());
+    if progress.waiting > 65536 {
+        written(rt, progress, text, outcome);
     }
-    next
 }
 
 // The last line, which the listing alone has.
-fn put_last(progress: Progress, text: &mut [u8]) -> usize {
+fn put_last(progress: &Progress, text: &mut [u8]) -> usize {
     let printed = progress.printed;
     let at = progress.waiting;
     match printed {
@@ -199,74 +178,52 @@ fn put_last(progress: Progress, text: &mut [u8]) -> usize {
 }
 
 // The end: the last line, and all that waits.
-fn ended(
-    rt: &HostRuntime,
-    progress: Progress,
-    text: &mut [u8],
-    outcome: &mut io::Result<()>,
-) -> Progress {
-    let waiting = put_last(progress, text);
-    let last = written(
-        rt,
-        Progress {
-            waiting,
-            ..progress
-        },
-        text,
-        outcome,
-    );
-    Progress {
-        going: false,
-        ..last
-    }
+fn ended(rt: &HostRuntime, progress: &mut Progress, text: &mut [u8], outcome: &mut io::Result<()>) {
+    progress.waiting = put_last(progress, text);
+    written(rt, progress, text, outcome);
+    progress.going = false;
 }
 
 // The next block. What waits is written out before it, since a live line may keep a read waiting for as long as it likes.
 fn more(
     rt: &HostRuntime,
-    progress: Progress,
+    progress: &mut Progress,
     buffer: &mut [u8],
     text: &[u8],
     outcome: &mut io::Result<()>,
-) -> Progress {
-    let next = written(rt, progress, text, outcome);
-    if next.going {
-        return read_on(rt, next, buffer, outcome);
+) {
+    written(rt, progress, text, outcome);
+    if progress.going {
+        read_on(rt, progress, buffer, outcome);
     }
-    next
 }
 
 // The next message of the buffer; or what is not settled yet, and the next block behind it; or the end.
 fn turn(
     rt: &HostRuntime,
-    progress: Progress,
+    progress: &mut Progress,
     buffer: &mut [u8],
     text: &mut [u8],
     history: &mut [u64; history::WORDS],
     list: &mut [u64],
     outcome: &mut io::Result<()>,
-) -> Progress {
+) {
     let rest = part(buffer, progress.from, progress.end);
     let passage = division::walk(progress.over, rest);
     let walked = passage.walked;
     match walked {
         Walked::Message(at, length, _) => {
             let message = part(rest, at, wrapping_add_usize(at, length));
-            given(
-                rt,
-                passed(progress, at),
-                message,
-                text,
-                history,
-                list,
-                outcome,
-            )
+            passed(progress, at);
+            given(rt, progress, message, text, history, list, outcome);
         }
         Walked::Unsettled(at) => {
+            passed(progress, at);
             if progress.over {
-                return ended(rt, passed(progress, at), text, outcome);
+                ended(rt, progress, text, outcome);
+            } else {
+                more(rt, progress, buffer, text, outcome);
             }
-            more(rt, passed(progress, at), buffer, text, outcome)
         }
     }
 }
@@ -293,9 +250,9 @@ fn print_recording(rt: &HostRuntime, printed: Printed, heading: &[u8]) -> io::Re
     };
     let mut outcome = Ok(());
     for _ in 0..u64::MAX {
-        progress = turn(
+        turn(
             rt,
-            progress,
+            &mut progress,
             &mut buffer,
             &mut text,
             &mut history,
