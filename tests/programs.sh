@@ -151,8 +151,10 @@ shell_says 0 'error: the argument has to be a TYPE, 0 to 255 in decimal digits' 
 shell_says 0 '' './cablesound rows target/long.macm | head -n 1'
 shell_says 0 '' 'trap "" PIPE; ./cablesound rows target/long.macm | head -n 1'
 for command in './cablesound rows' "$emulator target/bin/rows"; do
-    shell_says 0 '' "{ $command <target/long.macm; echo \$? >target/ended; } | head -n 1"
-    [ "$(cat target/ended)" = 141 ] || fail "where nobody reads '$command' ends with $(cat target/ended)"
+    for heed in '' 'trap "" PIPE;'; do
+        shell_says 0 '' "{ $heed $command <target/long.macm; echo \$? >target/ended; } | head -n 1"
+        [ "$(cat target/ended)" = 141 ] || fail "where nobody reads '$heed $command' ends with $(cat target/ended)"
+    done
 done
 shell_says 0 '' './cablesound why samples/sortie.macm | head -n 1'
 cp samples/locks.macm target/locks.macm || exit 2
