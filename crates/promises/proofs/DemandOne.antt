@@ -1,5 +1,6 @@
 -- Demand 1: every entry open to callers takes all inputs and refuses by 01's numbers, and a refusal changes no lent buffer and no reader state. That an
 -- entry ends is part of what `rt` proves of each function. Assumes nothing.
+use Rattle.std.specs.Prelude.{Result}
 use Prim.Native.Nat.{ℕ}
 use mathlib.Core.Path.{◌≡◌, refl}
 use mathlib.Core.List.{List}
@@ -13,7 +14,6 @@ use Rattle.macm.specs.declared.Observation.{Observation}
 use Rattle.macm.specs.Check.{verdict}
 use Rattle.macm.specs.Answers.{check_number}
 use Rattle.macm.specs.Read.{claimed_head, head_of, observed_as, observed_of}
-use Rattle.refusal.specs.declared.Written.{Written}
 use Rattle.refusal.specs.Written.{written_number, written_length}
 use Rattle.compose.specs.Start.{start_of, start_bytes}
 use Rattle.compose.specs.Set.{set_of, set_bytes}
@@ -67,6 +67,7 @@ use Rattle.lines.specs.contracts as lines_contracts
 use Rattle.lines.proofs as lines
 use Rattle.board.specs.contracts as board_contracts
 use Rattle.board.proofs as board
+use Rattle.refusal.specs.declared.Refusal.{Refusal}
 
 -- ---- it refuses by the numbers of 01 and 02: each under its condition, in the order of the tests, and 0 where none holds (promises/specs/Numbers.antt)
 pub check_by_number : (m : List ℕ) → CheckTable m (check_number (verdict m))
@@ -142,7 +143,7 @@ breaks_refused m ws list = unchanged.history_unchanged (head_of m) m ws list
 pub claimed_breaks_refused : (m ws list : List ℕ) → UnchangedHistory ws list (claimed_call m ws list)
 claimed_breaks_refused m ws list = unchanged.history_unchanged (claimed_head m) m ws list
 
-pub refused_hands_back_nothing : (w : Written) → Refuses w → written_length w ≡ 0
+pub refused_hands_back_nothing : (w : Result ℕ Refusal) → Refuses w → written_length w ≡ 0
 refused_hands_back_nothing w r = unchanged.no_length w r
 
 -- ---- nor the reader's state, nor the window and the output lent to it

@@ -1,4 +1,5 @@
 -- Why a call refuses, answers and leaves behind what it is to. Assumes nothing.
+use Rattle.std.specs.Prelude.{Result, Ok, Err}
 use Prim.Native.Nat.{ℕ, suc, ◌+◌, ◌-◌, ◌^◌, ◌≤◌, ◌<◌}
 use mathlib.Core.Path.{◌≡◌, refl, sym, ap, ◌∙◌}
 use mathlib.Core.Bool.{Bool, true, false, cond}
@@ -14,10 +15,7 @@ use Rattle.division.proofs.TestedSteps.{tested_most_in}
 use Rattle.refusal.specs.declared.Refusal.{Refusal}
 use Rattle.refusal.specs.declared.Refusal.TheVariants.{SmallBuffer, BadState, Ended, TooMuch}
 use Rattle.stream.specs.declared.State.{State}
-use Rattle.stream.specs.declared.Answer.TheVariants.{Refused}
 use Rattle.stream.specs.declared.Reply.{Reply}
-use Rattle.stream.specs.declared.Gate.{Gate}
-use Rattle.stream.specs.declared.Gate.TheVariants.{Refused as Shut, Open}
 use Rattle.stream.specs.declared.Outcome.{Outcome}
 use Rattle.stream.specs.declared.Outcome.TheVariants.{Message, Nothing}
 use Rattle.stream.specs.Scan.{scan}
@@ -49,40 +47,40 @@ bad_false held gap total summed = go (ltb room held) refl (ltb limit total) refl
 
 -- ---- the checks, test by test
 module _ (s : State) (w o p : ℕ) where
-  pub small_window : w < room → Shut SmallBuffer ≡ feed_checked s w o p
+  pub small_window : w < room → Err SmallBuffer ≡ feed_checked s w o p
   unfolding checked feed_checked feed_checked_by
   small_window a = rw (lt-ltb w room a)
 
   module _ (a : room ≤ w) where
-    pub small_output : o < room → Shut SmallBuffer ≡ feed_checked s w o p
+    pub small_output : o < room → Err SmallBuffer ≡ feed_checked s w o p
     unfolding checked feed_checked feed_checked_by
     small_output b = rw (le-ltb w room a, lt-ltb o room b)
 
     module _ (b : room ≤ o) where
-      pub is_bad : bad s.held s.gap s.total s.summed ≡ true → Shut BadState ≡ feed_checked s w o p
+      pub is_bad : bad s.held s.gap s.total s.summed ≡ true → Err BadState ≡ feed_checked s w o p
       unfolding checked feed_checked feed_checked_by
       is_bad c = rw (le-ltb w room a, le-ltb o room b, c)
 
       module _ (c : bad s.held s.gap s.total s.summed ≡ false) where
-        pub has_ended : (s.ended ≡ 0 → ⊥) → Shut Ended ≡ feed_checked s w o p
+        pub has_ended : (s.ended ≡ 0 → ⊥) → Err Ended ≡ feed_checked s w o p
         unfolding checked feed_checked feed_checked_by
         has_ended n = rw (le-ltb w room a, le-ltb o room b, c, ne_eqb s.ended 0 n)
 
         module _ (n : s.ended ≡ 0) where
-          pub too_much : limit < s.total + p → Shut TooMuch ≡ feed_checked s w o p
+          pub too_much : limit < s.total + p → Err TooMuch ≡ feed_checked s w o p
           unfolding checked feed_checked feed_checked_by
           too_much l = rw (le-ltb w room a, le-ltb o room b, c, eq-eqb s.ended 0 n, lt-ltb limit (s.total + p) l)
 
-          pub goes_on : s.total + p ≤ limit → Open ≡ feed_checked s w o p
+          pub goes_on : s.total + p ≤ limit → (Ok tt) ≡ feed_checked s w o p
           unfolding checked feed_checked feed_checked_by
           goes_on l = rw (le-ltb w room a, le-ltb o room b, c, eq-eqb s.ended 0 n, le-ltb limit (s.total + p) l)
 
 -- ---- and back: what an open gate has
-opens : (t : Bool) (r : Refusal) (k : Gate) → cond t (Shut r) k ≡ Open → (t ≡ false) × (k ≡ Open)
+opens : (t : Bool) (r : Refusal) (k : Result Unit Refusal) → cond t (Err r) k ≡ (Ok tt) → (t ≡ false) × (k ≡ (Ok tt))
 opens true r k e = absurd (let z : ◌≡◌ {A = ℕ} 0 1 = cc in omega arith)
 opens false r k e = (refl, e)
 
-checked_open : (s : State) (w o : ℕ) → checked s w o ≡ Open → Allowed s w o 0
+checked_open : (s : State) (w o : ℕ) → checked s w o ≡ (Ok tt) → Allowed s w o 0
 unfolding checked
 checked_open s w o e =
     let a = opens (ltb w room) SmallBuffer _ e in
@@ -91,18 +89,18 @@ checked_open s w o e =
     record { window = ltb-false _ _ a.0; output = ltb-false _ _ b.0; held = c.0; sums = c.2; fits = omega arith; counted = c.3 }
 
 module _ (s : State) (w o p : ℕ) where
-  pub feed_allowed : feed_checked s w o p ≡ Open → Allowed s w o p
+  pub feed_allowed : feed_checked s w o p ≡ (Ok tt) → Allowed s w o p
   unfolding feed_checked feed_checked_by
   feed_allowed e = go (checked s w o) refl e
     where
-      go : (g : Gate) → checked s w o ≡ g → feed_checked_by g s p ≡ Open → Allowed s w o p
-      go (Shut r) x e = absurd (let z : ◌≡◌ {A = ℕ} 0 1 = cc in omega arith)
-      go Open x e = test (eqb s.ended 0) e
+      go : (g : Result Unit Refusal) → checked s w o ≡ g → feed_checked_by g s p ≡ (Ok tt) → Allowed s w o p
+      go (Err r) x e = absurd (let z : ◌≡◌ {A = ℕ} 0 1 = cc in omega arith)
+      go (Ok tt) x e = test (eqb s.ended 0) e
         where
           a : Allowed s w o 0
           a = checked_open s w o x
 
-          test : (t : Bool) → cond t (cond (ltb limit (s.total + p)) (Shut TooMuch) Open) (Shut Ended) ≡ Open → Allowed s w o p
+          test : (t : Bool) → cond t (cond (ltb limit (s.total + p)) (Err TooMuch) (Ok tt)) (Err Ended) ≡ (Ok tt) → Allowed s w o p
           test true e =
               let b = opens (ltb limit (s.total + p)) TooMuch _ e in
               record { window = a.window; output = a.output; held = a.held; sums = a.sums; fits = ltb-false _ _ b.0; counted = a.counted }
@@ -119,9 +117,9 @@ finish_checked : (s : State) (w o : ℕ) → feed_checked (unended s) w o 0 ≡ 
 unfolding feed_checked feed_checked_by checked
 finish_checked s w o = go (checked s w o) refl
   where
-    go : (g : Gate) → checked s w o ≡ g → feed_checked_by g (unended s) 0 ≡ g
-    go (Shut r) e = refl
-    go Open e = rw (le-ltb limit (s.total + 0) (checked_open s w o e).fits)
+    go : (g : Result Unit Refusal) → checked s w o ≡ g → feed_checked_by g (unended s) 0 ≡ g
+    go (Err r) e = refl
+    go (Ok tt) e = rw (le-ltb limit (s.total + 0) (checked_open s w o e).fits)
 
 -- ---- what a call leaves
 -- the reply fits, and so do the bytes held and the bytes summed
@@ -175,22 +173,22 @@ module _ (s : State) (p w o : List ℕ) (d : Fed) (w₁ w₂ o₁ : List ℕ) (r
 
 -- ---- the calls
 module _ (s : State) (p w o : List ℕ) where
-  pub feed_refused : (r : Refusal) (a : Reply) → feed_checked s (length w) (length o) (length p) ≡ Shut r → a ≡ record { answer = Refused r; state = s } → Leaves (feed_call s p w o) a w o
+  pub feed_refused : (r : Refusal) (a : Reply) → feed_checked s (length w) (length o) (length p) ≡ Err r → a ≡ record { answer = Err r; state = s } → Leaves (feed_call s p w o) a w o
   unfolding feed_call
   feed_refused r a z q = rw z (record { reply = q; window = refl; output = refl })
 
-  pub feed_goes : (x : Outcome) (u : ℕ) (w₁ o₁ w₂ : List ℕ) (r : Reply) → feed_checked s (length w) (length o) (length p) ≡ Open → CameTo (fed p (scan false (take s.held w) s.gap)) p w o x w₁ o₁
+  pub feed_goes : (x : Outcome) (u : ℕ) (w₁ o₁ w₂ : List ℕ) (r : Reply) → feed_checked s (length w) (length o) (length p) ≡ (Ok tt) → CameTo (fed p (scan false (take s.held w) s.gap)) p w o x w₁ o₁
       → Tested s.gap (take s.held w ++ p) x u → r ≡ reply_to s.total false x (s.summed + u) → w₂ ≡ take r.state.held w₁ ++ replicate (length w₁ - r.state.held) 0 → Leaves (feed_call s p w o) r w₂ o₁
   unfolding feed_call feed
   feed_goes (Message n g t h) u w₁ o₁ w₂ r z c k q v = rw z (fed_message s p w o _ w₁ w₂ o₁ r v n g t h u c k.sum q)
   feed_goes (Nothing g t h) u w₁ o₁ w₂ r z c k q v = rw z (fed_nothing s p w o _ w₁ w₂ o₁ r v g t h u c k.sum q)
 
 module _ (s : State) (w o : List ℕ) where
-  pub finish_refused : (r : Refusal) (a : Reply) → feed_checked (unended s) (length w) (length o) 0 ≡ Shut r → a ≡ record { answer = Refused r; state = s } → Leaves (finish_call s w o) a w o
+  pub finish_refused : (r : Refusal) (a : Reply) → feed_checked (unended s) (length w) (length o) 0 ≡ Err r → a ≡ record { answer = Err r; state = s } → Leaves (finish_call s w o) a w o
   unfolding finish_call
   finish_refused r a z q = rw (sym (finish_checked s (length w) (length o)) ∙ z) (record { reply = q; window = refl; output = refl })
 
-  pub finish_goes : (x : Outcome) (u : ℕ) (w₁ o₁ w₂ : List ℕ) (r : Reply) → feed_checked (unended s) (length w) (length o) 0 ≡ Open → CameTo (fed [] (scan true (take s.held w) s.gap)) [] w o x w₁ o₁
+  pub finish_goes : (x : Outcome) (u : ℕ) (w₁ o₁ w₂ : List ℕ) (r : Reply) → feed_checked (unended s) (length w) (length o) 0 ≡ (Ok tt) → CameTo (fed [] (scan true (take s.held w) s.gap)) [] w o x w₁ o₁
       → Tested s.gap (take s.held w ++ []) x u → r ≡ reply_to s.total true x (s.summed + u) → w₂ ≡ take r.state.held w₁ ++ replicate (length w₁ - r.state.held) 0 → Leaves (finish_call s w o) r w₂ o₁
   unfolding finish_call finish
   finish_goes (Message n g t h) u w₁ o₁ w₂ r z c k q v = rw (sym (finish_checked s (length w) (length o)) ∙ z) (finished_message s [] w o _ w₁ w₂ o₁ r v n g t h u c refl (rw (append-nil (take s.held w)) at k.sum) q)

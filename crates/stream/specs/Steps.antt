@@ -1,5 +1,5 @@
 -- What the private steps of the reader say of each other: no public contract cites these. Definitions only.
-use Rattle.std.specs.Prelude.{ℕ, suc, ◌+◌, ◌-◌, ◌≤◌, ◌≡◌, Bool, true, cond, List, ◌++◌, length, take, drop}
+use Rattle.std.specs.Prelude.{ℕ, suc, ◌+◌, ◌-◌, ◌≤◌, ◌≡◌, Bool, true, cond, List, ◌++◌, length, take, drop, Result, Ok}
 use mir.Val.{bool_byte}
 use Rattle.octets.specs.Parts.{over}
 use Rattle.front.specs.Look.{need}
@@ -14,6 +14,7 @@ use Rattle.stream.specs.declared.Outcome.TheVariants.{Message, Nothing}
 use Rattle.stream.specs.Scan.{scan}
 use Rattle.stream.specs.Feed.{Fed, given, more, fed}
 use Rattle.stream.specs.Reader.{room, limit, most_summed}
+use Rattle.refusal.specs.declared.Refusal.{Refusal}
 
 -- what the checks let through
 pub record Allowed (s : State) (w o p : ℕ) : Type 0 where
@@ -69,12 +70,12 @@ Divided ended held gap p w o r w' o' =
     CameTo (fed p (scan ended (take held w) gap)) p w o r.outcome w' o' × Tested gap (take held w ++ p) r.outcome r.summed
 
 -- ---- the reply to it, of a finish or of a feed
-abbrev pub no_message : Bool → ℕ → Answer
-no_message ended g = cond ended (End g) NeedsMore
+abbrev pub no_message : Bool → ℕ → Result Answer Refusal
+no_message ended g = cond ended (Ok (End g)) (Ok NeedsMore)
 
 abbrev pub reply_to : ℕ → Bool → Outcome → ℕ → Reply
 reply_to total ended (Message n g t h) summed =
-    record { answer = Answered n g t; state = record { held = h; gap = 0; total = total + t; ended = bool_byte ended; summed = summed } }
+    record { answer = Ok (Answered n g t); state = record { held = h; gap = 0; total = total + t; ended = bool_byte ended; summed = summed } }
 reply_to total ended (Nothing g t h) summed =
     record { answer = no_message ended g; state = record { held = h; gap = g; total = total + t; ended = bool_byte ended; summed = summed } }
 
