@@ -24,11 +24,10 @@ pub struct Passage {
     pub summed: usize,
 }
 
-// What the plain reader answers: a refusal; a message with its position in the whole slice, its length and the gap bytes before it;
-// the end with the gap bytes left.
+// What the plain reader comes to: a message with its position in the whole slice, its length and the gap bytes before it; or the end with the gap bytes
+// left.
 #[derive(Clone, Copy)]
 pub enum Next {
-    Refused(Refusal),
     Message {
         position: usize,
         length: usize,
@@ -191,22 +190,20 @@ pub fn walk(ended: bool, bytes: &[u8]) -> Passage
 // ---- the plain reader
 
 // The next message of a recording, from a start on (12).
-pub fn next_message(recording: &[u8], start: usize) -> Next
+pub fn next_message(recording: &[u8], start: usize) -> Result<Next, Refusal>
     ensures { result ≡ next_of recording.now start }
 {
     if recording.len() < start {
-        return Next::Refused(Refusal::PastEnd);
+        return Err(Refusal::PastEnd);
     }
-    let passage = walk(true, &recording[start..]);
-    let walked = passage.walked;
-    match walked {
+    Ok(match walk(true, &recording[start..]).walked {
         Walked::Message(gap, length, _) => Next::Message {
             position: start + gap,
             length,
             gap,
         },
         Walked::Unsettled(gap) => Next::End { gap },
-    }
+    })
 }
 
 // That message as the part of the recording where it stands: the empty part where there is none.
@@ -216,15 +213,12 @@ pub fn message_part(recording: &[u8], start: usize) -> &[u8]
         × (result.now ≡ bytes_in recording.now (next_of recording.now start)) }
 {
     match next_message(recording, start) {
-        Next::Message {
-            position,
-            length,
-            gap: _,
-        } => {
+        Ok(Next::Message {
+            position, length, ..
+        }) => {
             let end = position + length;
             &recording[position..end]
         }
-        Next::Refused(_) => &recording[0..0],
-        Next::End { gap: _ } => &recording[0..0],
+        Ok(Next::End { .. }) | Err(_) => &recording[..0],
     }
 }

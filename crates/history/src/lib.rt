@@ -2,7 +2,7 @@
 // each SID whether it was seen, its last time and its last lock count. The list is lent too, three numbers for each break. A refusal changes neither.
 #![tactic(auto)]
 
-ghost use Rattle.std.specs.Prelude.{◌≡◌, [], ◌∷◌, ◌+◌, ◌*◌, ◌≤◌, length};
+ghost use Rattle.std.specs.Prelude.{◌≡◌, [], ◌∷◌, ◌+◌, ◌*◌, ◌≤◌, length, Ok};
 ghost use Rattle.octets.specs.Parts.{put, part};
 ghost use Rattle.macm.specs.Form.{size};
 ghost use Rattle.macm.specs.Observation.{observation_of};
@@ -12,7 +12,7 @@ ghost use Rattle.history.specs.Breaks.{said_of};
 ghost use Rattle.history.specs.Calls.{list_numbers, Leaves, call_by, next_call, claimed_call};
 ghost use Rattle.history.specs.Steps.{Takes};
 
-use macm::{Form, Head, Header};
+use macm::{Form, Header};
 use refusal::Refusal;
 
 // The words of a history, and the numbers of a list that has room for the breaks of every message.
@@ -39,13 +39,6 @@ pub struct Last {
     pub seen: u64,
     pub time: u64,
     pub lock: u64,
-}
-
-// What a call answers: a refusal, or how many breaks stand at the front of the list.
-#[derive(Clone, Copy)]
-pub enum Breaks {
-    Refused(Refusal),
-    Listed(usize),
 }
 
 // ---- the words
@@ -177,36 +170,39 @@ fn list_breaks(
     header: Header,
     count: u8,
     message: &[u8],
-) -> Breaks
+) -> Result<usize, Refusal>
     requires { (length history.old ≡ history_words) × (length message.now ≡ size header.form count) }
-    ensures { Leaves (call_by (Head.Read header count) message.now history.old list.old) result history.new list.new }
+    ensures { Leaves (call_by (Ok (header, count)) message.now history.old list.old) result history.new list.new }
 {
     if list.len() < NUMBERS {
-        return Breaks::Refused(Refusal::SmallBuffer);
+        return Err(Refusal::SmallBuffer);
     }
-    let form = header.form;
-    if is_of(history[0], form) {
-        return Breaks::Listed(appear_all(history, list, header, count, message));
+    if !is_of(history[0], header.form) {
+        return Ok(0);
     }
-    Breaks::Listed(0)
+    Ok(appear_all(history, list, header, count, message))
 }
 
-// The breaks of exactly a message's bytes (1 to 4, then 8).
-pub fn next_breaks(message: &[u8], history: &mut [u64; WORDS], list: &mut [u64]) -> Breaks
+// The breaks of exactly a message's bytes: how many stand at the front of the list (1 to 4, then 8).
+pub fn next_breaks(
+    message: &[u8],
+    history: &mut [u64; WORDS],
+    list: &mut [u64],
+) -> Result<usize, Refusal>
     ensures { Leaves (next_call message.now history.old list.old) result history.new list.new }
 {
-    match macm::read_header(message) {
-        Head::Refused(refusal) => Breaks::Refused(refusal),
-        Head::Read(header, count) => list_breaks(history, list, header, count, message),
-    }
+    let (header, count) = macm::read_header(message)?;
+    list_breaks(history, list, header, count, message)
 }
 
 // The same of bytes that the division gave as a message (1 to 3, then 8): their checksum is not run again.
-pub fn claimed_breaks(message: &[u8], history: &mut [u64; WORDS], list: &mut [u64]) -> Breaks
+pub fn claimed_breaks(
+    message: &[u8],
+    history: &mut [u64; WORDS],
+    list: &mut [u64],
+) -> Result<usize, Refusal>
     ensures { Leaves (claimed_call message.now history.old list.old) result history.new list.new }
 {
-    match macm::claimed_header(message) {
-        Head::Refused(refusal) => Breaks::Refused(refusal),
-        Head::Read(header, count) => list_breaks(history, list, header, count, message),
-    }
+    let (header, count) = macm::claimed_header(message)?;
+    list_breaks(history, list, header, count, message)
 }

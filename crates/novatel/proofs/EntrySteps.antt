@@ -20,15 +20,11 @@ use Rattle.novatel.specs.Rolls.{rolls_of, corrected_of}
 use Rattle.novatel.specs.declared.Corrected.{Corrected}
 use Rattle.refusal.specs.declared.Refusal.{Refusal}
 
+-- the rolls and what is left, of a range and an ADR
+abbrev pub rolled : ℕ → ℤ → Corrected
+rolled r a = record { rolls = rolls_of r a; adr = corrected_of r a }
+
 module _ (s : List ℕ) where
-  pub read_size : (length s ≡ 24 → ⊥) → Err OtherLength ≡ reading_of s
-  unfolding reading_of
-  read_size n = rw (ne_eqb (length s) 24 n)
-
-  pub read_record : length s ≡ 24 → (r : Record) → r ≡ record_of s → Ok r ≡ reading_of s
-  unfolding reading_of
-  read_record e r q = rw (eq-eqb (length s) 24 e, q)
-
   pub correct_size : (length s ≡ 24 → ⊥) → Err OtherLength ≡ correction_of s
   unfolding correction_of
   correct_size n = rw (ne_eqb (length s) 24 n)
@@ -58,21 +54,6 @@ module _ (s : List ℕ) where
       pub correct_signal : (y ≡ 0 → ⊥) → Err OtherSignal ≡ correction_of s
       correct_signal n = other (first false (ne_eqb y 0 n))
 
-      pub correct_first : y ≡ 0 → (r : ℕ) (a : ℤ) (c : Result Corrected Refusal) → r ≡ field_of 60 36 s → a ≡ signed_of (half 32) (field_of 96 32 s) → c ≡ Ok (record { rolls = (rolls_of r a); adr = (corrected_of r a) }) → c ≡ correction_of s
+      pub correct_first : y ≡ 0 → (r : ℕ) (a : ℤ) (c : Corrected) → r ≡ field_of 60 36 s → a ≡ signed_of (half 32) (field_of 96 32 s) → c ≡ rolled r a → ◌≡◌ {A = Result Corrected Refusal} (Ok c) (correction_of s)
       unfolding correction_of correction_in record_of
-      correct_first n r a c k j h = h ∙ ap₂ (λ u v. Ok (record { rolls = (rolls_of u v); adr = (corrected_of u v) })) k j ∙ rw (eq-eqb (length s) 24 e, first true (eq-eqb y 0 n))
-
-module _ (r : Record) (out : List ℕ) where
-  pub write_wide : fits r ≡ false → (Err TooWide ≡ writing_of r out) × (out ≡ writing_bytes r out)
-  unfolding writing_of writing_bytes
-  write_wide f = (rw f, rw f)
-
-  pub write_room : fits r ≡ true → length out < 24 → (Err NoRoom ≡ writing_of r out) × (out ≡ writing_bytes r out)
-  unfolding writing_of writing_bytes
-  write_room f l = let w = lt-leb 24 (length out) l in (rw (f, w), rw (f, w))
-
-  pub write_done : (w : List ℕ) → fits r ≡ true → 24 ≤ length out → w ≡ record_bytes r → length w ≡ 24 → (Ok 24 ≡ writing_of r out) × (w ++ drop (24 - 0) (drop 0 out) ≡ writing_bytes r out)
-  unfolding writing_of writing_bytes
-  write_done w f l p k =
-      let v = le-leb 24 (length out) l in
-      (rw (f, v), ap (λ n. w ++ drop n out) (sym k) ∙ ap (λ b. b ++ drop (length b) out) p ∙ rw (f, v))
+      correct_first n r a c k j h = ap Ok (h ∙ ap₂ rolled k j) ∙ rw (eq-eqb (length s) 24 e, first true (eq-eqb y 0 n))

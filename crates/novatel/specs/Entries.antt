@@ -27,7 +27,7 @@ says_gps status = eqb (cut 16 3 status) 0 && eqb (cut 21 5 status) 0
 
 -- of a record that says so, 22 of any other
 unfoldable pub correction_in : Record → Result Corrected Refusal
-correction_in r = cond (says_gps r.status) (Ok (record { rolls = (rolls_of r.range r.adr); adr = (corrected_of r.range r.adr) })) (Err OtherSignal)
+correction_in r = cond (says_gps r.status) (Ok (record { rolls = rolls_of r.range r.adr; adr = corrected_of r.range r.adr })) (Err OtherSignal)
 
 -- 13 for a length other than 24, then 22
 unfoldable pub correction_of : List ℕ → Result Corrected Refusal

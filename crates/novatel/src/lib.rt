@@ -9,7 +9,7 @@ ghost use Rattle.novatel.specs.Deviations.{range_deviation, adr_deviation};
 ghost use Rattle.novatel.specs.Entries.{reading_of, writing_of, writing_bytes, correction_of};
 ghost use Rattle.novatel.specs.Rolls.{rolls_of, corrected_of};
 
-use refusal::{Refusal, Written};
+use refusal::Refusal;
 
 // The fields of a record: Doppler in 1/256 Hz, range in 1/128 m, ADR in 1/256 cycle, the deviations' codes, lock in 1/32 s, C/N0 in dB-Hz.
 #[derive(Clone, Copy)]
@@ -26,18 +26,11 @@ pub struct Record {
     pub reserved: u64,
 }
 
-// What reading answers.
+// The rolls of an ADR, and the ADR less these.
 #[derive(Clone, Copy)]
-pub enum Reading {
-    Refused(Refusal),
-    Read(Record),
-}
-
-// What correcting answers: a refusal, or the rolls and the ADR less these.
-#[derive(Clone, Copy)]
-pub enum Correction {
-    Refused(Refusal),
-    Corrected { rolls: i64, adr: i64 },
+pub struct Corrected {
+    pub rolls: i64,
+    pub adr: i64,
 }
 
 // ---- the deviations' codes, of each the low 4 bits
@@ -130,12 +123,12 @@ fn rolls_of(range: u64, adr: i64) -> i64
     below(rounded(short - 1))
 }
 
-fn less_rolls(range: u64, adr: i64) -> Correction
+fn less_rolls(range: u64, adr: i64) -> Corrected
     requires { (range < 68719476736) × (mag adr < 2147483648) }
-    ensures { result ≡ Correction.Corrected (rolls_of range adr) (corrected_of range adr) }
+    ensures { result ≡ record { rolls = rolls_of range adr; adr = corrected_of range adr } }
 {
     let rolls = rolls_of(range, adr);
-    Correction::Corrected {
+    Corrected {
         rolls,
         adr: adr - 2147483648 * rolls,
     }
@@ -161,32 +154,33 @@ fn record_of(bytes: &[u8]) -> Record
 }
 
 // The record in exactly 24 bytes (13).
-pub fn read_record(bytes: &[u8]) -> Reading
+#[tactic(auto, unfolding(crate::specs::Entries::reading_of))]
+pub fn read_record(bytes: &[u8]) -> Result<Record, Refusal>
     ensures { result ≡ reading_of bytes.now }
 {
     if bytes.len() != 24 {
-        return Reading::Refused(Refusal::OtherLength);
+        return Err(Refusal::OtherLength);
     }
-    Reading::Read(record_of(bytes))
+    Ok(record_of(bytes))
 }
 
 // The rolls of a record's ADR, and the ADR less these (13, then 22).
-pub fn corrected_adr(bytes: &[u8]) -> Correction
+pub fn corrected_adr(bytes: &[u8]) -> Result<Corrected, Refusal>
     ensures { result ≡ correction_of bytes.now }
 {
     if bytes.len() != 24 {
-        return Correction::Refused(Refusal::OtherLength);
+        return Err(Refusal::OtherLength);
     }
     if bits::field(bytes, 16, 3) != 0 {
-        return Correction::Refused(Refusal::OtherSignal);
+        return Err(Refusal::OtherSignal);
     }
     if bits::field(bytes, 21, 5) != 0 {
-        return Correction::Refused(Refusal::OtherSignal);
+        return Err(Refusal::OtherSignal);
     }
-    less_rolls(
+    Ok(less_rolls(
         bits::field(bytes, 60, 36),
         bits::signed_field(bytes, 96, 32),
-    )
+    ))
 }
 
 // ---- writing
@@ -231,16 +225,17 @@ fn fill(bytes: &mut [u8], r: Record)
     bits::put_field(bytes, 170, 22, r.reserved);
 }
 
-// The record at the front of `out` (23, then 6).
-pub fn write_record(out: &mut [u8], fields: Record) -> Written
+// The record at the front of `out`: its length, 24 (23, then 6).
+#[tactic(auto, using(crate::proofs::WriteSteps::least_cn0), unfolding(crate::specs::Entries::writing_of, crate::specs::Entries::writing_bytes))]
+pub fn write_record(out: &mut [u8], fields: Record) -> Result<usize, Refusal>
     ensures { (result ≡ writing_of fields out.old) × (out.new ≡ writing_bytes fields out.old) }
 {
-    if fitting(fields) {
-        if out.len() < 24 {
-            return Written::Refused(Refusal::NoRoom);
-        }
-        fill(&mut out[0..24], fields);
-        return Written::Length(24);
+    if !fitting(fields) {
+        return Err(Refusal::TooWide);
     }
-    Written::Refused(Refusal::TooWide)
+    if out.len() < 24 {
+        return Err(Refusal::NoRoom);
+    }
+    fill(&mut out[..24], fields);
+    Ok(24)
 }

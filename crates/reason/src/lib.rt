@@ -12,7 +12,6 @@ use refusal::Refusal;
 // cut short before the count byte, or by so many bytes; the checksum is off, with the residue.
 #[derive(Clone, Copy)]
 pub enum Reason {
-    Refused(Refusal),
     Inside(usize),
     Given(usize),
     Sync(usize),
@@ -48,22 +47,18 @@ fn sum(bytes: &[u8], n: usize) -> Reason
 
 // Of the first of these bytes, which no message covers (12 where there is none).
 #[tactic(auto, unfolding(crate::specs::Reason::here_of, crate::specs::Reason::said_by))]
-pub fn reason_here(bytes: &[u8]) -> Reason
+pub fn reason_here(bytes: &[u8]) -> Result<Reason, Refusal>
     ensures { result ≡ here_of bytes.now }
 {
-    if bytes.len() == 0 {
-        return Reason::Refused(Refusal::PastEnd);
+    if bytes.is_empty() {
+        return Err(Refusal::PastEnd);
     }
-    match front::claims(bytes) {
+    Ok(match front::claims(bytes) {
         Claim::Nothing => Reason::Sync(wrong_at(bytes)),
         Claim::AtLeast(_) => Reason::CutUnknown,
-        Claim::Long(n) => {
-            if bytes.len() < n {
-                return Reason::CutShort(n - bytes.len());
-            }
-            sum(bytes, n)
-        }
-    }
+        Claim::Long(n) if bytes.len() < n => Reason::CutShort(n - bytes.len()),
+        Claim::Long(n) => sum(bytes, n),
+    })
 }
 
 // ---- at a position of a recording
@@ -75,11 +70,11 @@ fn cover(recording: &[u8], position: usize) -> usize
 {
     let mut at = 0;
     while at < position {
-        let Next::Message {
+        let Ok(Next::Message {
             position: start,
             length,
-            gap: _,
-        } = division::next_message(recording, at)
+            ..
+        }) = division::next_message(recording, at)
         else {
             return position;
         };
@@ -94,15 +89,15 @@ fn cover(recording: &[u8], position: usize) -> usize
 
 // The reason at a position (12).
 #[tactic(auto, unfolding(crate::specs::Reason::reason_of))]
-pub fn reason_at(recording: &[u8], position: usize) -> Reason
+pub fn reason_at(recording: &[u8], position: usize) -> Result<Reason, Refusal>
     ensures { result ≡ reason_of recording.now position }
 {
     if recording.len() <= position {
-        return Reason::Refused(Refusal::PastEnd);
+        return Err(Refusal::PastEnd);
     }
     let start = cover(recording, position);
     if start < position {
-        return Reason::Inside(start);
+        return Ok(Reason::Inside(start));
     }
     reason_here(&recording[position..])
 }

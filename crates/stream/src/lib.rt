@@ -27,11 +27,9 @@ pub struct State {
     pub summed: u64,
 }
 
-// A refusal; all of the piece is taken and more is needed; a message with its length, the gap before it and the bytes taken;
-// the end with its gap.
+// All of the piece is taken and more is needed; a message with its length, the gap before it and the bytes taken; the end with its gap.
 #[derive(Clone, Copy)]
 pub enum Answer {
-    Refused(Refusal),
     NeedsMore,
     Message { length: u64, gap: u64, taken: u64 },
     End { gap: u64 },
@@ -39,15 +37,8 @@ pub enum Answer {
 
 #[derive(Clone, Copy)]
 pub struct Reply {
-    pub answer: Answer,
+    pub answer: Result<Answer, Refusal>,
     pub state: State,
-}
-
-// Whether a call goes on.
-#[derive(Clone, Copy)]
-enum Gate {
-    Refused(Refusal),
-    Open,
 }
 
 // What a call comes to: a message with its length, or none; then the gap bytes, the bytes of the piece taken, and the bytes held at the front of
@@ -88,25 +79,28 @@ fn bad_state(held: u64, gap: u64, total: u64, summed: u64) -> bool
 
 // 8, 9, 10 and 11 in rising order. A finish is checked as a feed of no bytes for which no end was announced.
 #[tactic(auto, unfolding(crate::specs::Reader::feed_checked, crate::specs::Reader::feed_checked_by, crate::specs::Reader::checked))]
-fn checks(state: State, announced: u64, window: usize, output: usize, piece: usize) -> Gate
+fn checks(
+    state: State,
+    announced: u64,
+    window: usize,
+    output: usize,
+    piece: usize,
+) -> Result<(), Refusal>
     ensures { result ≡ feed_checked (record { held = state.held; gap = state.gap; total = state.total; ended = announced; summed = state.summed }) window output piece }
 {
-    if window < 6136 {
-        return Gate::Refused(Refusal::SmallBuffer);
-    }
-    if output < 6136 {
-        return Gate::Refused(Refusal::SmallBuffer);
+    if window < 6136 || output < 6136 {
+        return Err(Refusal::SmallBuffer);
     }
     if bad_state(state.held, state.gap, state.total, state.summed) {
-        return Gate::Refused(Refusal::BadState);
+        return Err(Refusal::BadState);
     }
     if announced != 0 {
-        return Gate::Refused(Refusal::Ended);
+        return Err(Refusal::Ended);
     }
     if 281474976710656 - state.total < piece as u64 {
-        return Gate::Refused(Refusal::TooMuch);
+        return Err(Refusal::TooMuch);
     }
-    Gate::Open
+    Ok(())
 }
 
 // ---- bytes that move
@@ -317,15 +311,15 @@ fn reply_of(total: usize, ended: bool, outcome: Outcome, summed: usize) -> Reply
 {
     match outcome {
         Outcome::Message(length, gap, taken, held) => Reply {
-            answer: Answer::Message {
+            answer: Ok(Answer::Message {
                 length: length as u64,
                 gap: gap as u64,
                 taken: taken as u64,
-            },
+            }),
             state: state_of(held, 0, total + taken, ended, summed),
         },
         Outcome::Nothing(gap, taken, held) => Reply {
-            answer: no_message(ended, gap),
+            answer: Ok(no_message(ended, gap)),
             state: state_of(held, gap, total + taken, ended, summed),
         },
     }
@@ -346,43 +340,36 @@ fn conclude(state: State, ended: bool, counted: Counted, window: &mut [u8]) -> R
 
 // ---- the calls
 
-fn refused(state: State, refusal: Refusal) -> Reply
-    ensures { result ≡ record { answer = Answer.Refused refusal; state = state } }
-{
-    Reply {
-        answer: Answer::Refused(refusal),
-        state,
-    }
-}
-
 // The fewest bytes of the piece that settle the next message, or all of it (8, 9, 10, 11).
 pub fn feed(state: State, piece: &[u8], window: &mut [u8], output: &mut [u8]) -> Reply
     ensures { Leaves (feed_call state piece.now window.old output.old) result window.new output.new }
 {
-    match checks(state, state.ended, window.len(), output.len(), piece.len()) {
-        Gate::Refused(refusal) => refused(state, refusal),
-        Gate::Open => {
-            let held = state.held as usize;
-            let gap = state.gap as usize;
-            let counted = divide(false, held, gap, piece, window, output);
-            conclude(state, false, counted, window)
-        }
+    if let Err(refusal) = checks(state, state.ended, window.len(), output.len(), piece.len()) {
+        return Reply {
+            answer: Err(refusal),
+            state,
+        };
     }
+    let held = state.held as usize;
+    let gap = state.gap as usize;
+    let counted = divide(false, held, gap, piece, window, output);
+    conclude(state, false, counted, window)
 }
 
 // The end of the stream: the remaining messages one a call, then the end, the same each time after (8, 9).
 pub fn finish(state: State, window: &mut [u8], output: &mut [u8]) -> Reply
     ensures { Leaves (finish_call state window.old output.old) result window.new output.new }
 {
-    match checks(state, 0, window.len(), output.len(), 0) {
-        Gate::Refused(refusal) => refused(state, refusal),
-        Gate::Open => {
-            let held = state.held as usize;
-            let gap = state.gap as usize;
-            let counted = divide(true, held, gap, b"", window, output);
-            conclude(state, true, counted, window)
-        }
+    if let Err(refusal) = checks(state, 0, window.len(), output.len(), 0) {
+        return Reply {
+            answer: Err(refusal),
+            state,
+        };
     }
+    let held = state.held as usize;
+    let gap = state.gap as usize;
+    let counted = divide(true, held, gap, b"", window, output);
+    conclude(state, true, counted, window)
 }
 
 // The state before the first byte.

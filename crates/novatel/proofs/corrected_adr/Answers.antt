@@ -1,5 +1,4 @@
 -- `novatel::corrected_adr` meets its contract. Assumes nothing.
-use Rattle.std.specs.Prelude.{Ok}
 use mathlib.Core.Path.{ap, ◌∙◌}
 use lib.IntN.{ℤ}
 use mir.Syntax.{w64}
@@ -7,6 +6,7 @@ use mir.ValLaws.{to_z-of_z}
 use Rattle.octets.specs.Signed.{half}
 use Rattle.octets.proofs.Signed.{signed_fits}
 use Rattle.bits.proofs.Fields.{field_fits}
+use Rattle.novatel.specs.declared.Corrected.{Corrected}
 use Rattle.novatel.specs.Rolls.{rolls_of, corrected_of}
 use Rattle.novatel.proofs.EntrySteps.{correct_size, correct_system, correct_signal, correct_first}
 use Rattle.novatel.proofs.corrected_adr.Goals as goal
@@ -36,4 +36,4 @@ returns c =
     let z = to_z-of_z w64 adr.result (record { sfits = adr.type_inv }) in
     correct_first s system.if-bytes-ne24.false system.field.result signal.field-2.result system.field.ensures signal.if-field-ne0.false signal.field-2.ensures c.if-field-ne0-2.false
     range.result adr.result c.less_rolls.result range.ensures adr.ensures
-    (c.less_rolls.ensures ∙ ap (λ (y : ℤ). Ok (record { rolls = (rolls_of range.result y); adr = (corrected_of range.result y) })) z)
+    (c.less_rolls.ensures ∙ ap (λ (y : ℤ). let both : Corrected = record { rolls = rolls_of range.result y; adr = corrected_of range.result y } in both) z)

@@ -1,10 +1,10 @@
 -- `novatel::less_rolls` meets its contract. Assumes nothing.
-use Rattle.std.specs.Prelude.{Ok}
 use mathlib.Core.Path.{ap, ap₂, ◌∙◌}
 use lib.IntN.{ℤ, pos, ◌-ℤ◌, ◌*ℤ◌}
 use mir.Syntax.{w64}
 use mir.Val.{to_z, of_z}
 use mir.ValLaws.{to_z-of_z}
+use Rattle.novatel.specs.declared.Corrected.{Corrected}
 use Rattle.novatel.specs.Rolls.{rolls_of, corrected_of}
 use Rattle.novatel.proofs.RollSteps.{product_fits, corrected_fits}
 use Rattle.novatel.proofs.less_rolls.Goals as goal
@@ -19,4 +19,4 @@ returns c =
     let e = ap (λ (y : ℤ). to_z w64 (of_z w64 (pos 2147483648 *ℤ y))) z ∙ to_z-of_z w64 (pos 2147483648 *ℤ n) (product_fits n c.rolls_of-rolls.ensures.1) in
     let d = ap (λ (y : ℤ). to_z w64 (of_z w64 y)) (ap₂ (λ (x y : ℤ). x -ℤ y) (to_z-of_z w64 a c.ranges.adr) e) ∙ to_z-of_z w64 (a -ℤ pos 2147483648 *ℤ n) (corrected_fits a n c.requires.1 c.rolls_of-rolls.ensures.1) in
     let q = c.rolls_of-rolls.ensures.0 ∙ ap (rolls_of p) (to_z-of_z w64 a c.ranges.adr) in
-    ap₂ Ok (record { rolls = (z ∙ q); adr = (d ∙ ap (λ (y : ℤ). a -ℤ pos 2147483648 *ℤ y) q) })
+    ap₂ (λ (x y : ℤ). let both : Corrected = record { rolls = x; adr = y } in both) (z ∙ q) (d ∙ ap (λ (y : ℤ). a -ℤ pos 2147483648 *ℤ y) q)
