@@ -8,7 +8,7 @@ use Rattle.history.proofs.next_breaks.Goals as goal
 pub list_breaks-requires : goal.list_breaks-requires
 list_breaks-requires c =
     let m = c.args.message.now in
-    (search rules, rw (sym c.read_header.ensures ∙ c.in-Read.is) at (head_sized m))
+    (search rules, rw (sym c.read_header.ensures ∙ c.in_ok-header.was) at (head_sized m))
 
-pub returns-in-Refused : goal.returns-in-Refused
-returns-in-Refused c = call_refused _ _ _ _ _ (sym c.read_header.ensures ∙ c.in-Refused.is)
+pub returns-in_err-header : goal.returns-in_err-header
+returns-in_err-header c = call_refused _ _ _ _ _ _ (sym c.read_header.ensures ∙ c.in_err-header.was) (search rules)
