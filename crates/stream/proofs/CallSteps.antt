@@ -71,16 +71,16 @@ module _ (s : State) (w o p : ℕ) where
           unfolding checked feed_checked feed_checked_by
           too_much l = rw (le-ltb w room a, le-ltb o room b, c, eq-eqb s.ended 0 n, lt-ltb limit (s.total + p) l)
 
-          pub goes_on : s.total + p ≤ limit → (Ok tt) ≡ feed_checked s w o p
+          pub goes_on : s.total + p ≤ limit → Ok tt ≡ feed_checked s w o p
           unfolding checked feed_checked feed_checked_by
           goes_on l = rw (le-ltb w room a, le-ltb o room b, c, eq-eqb s.ended 0 n, le-ltb limit (s.total + p) l)
 
 -- ---- and back: what an open gate has
-opens : (t : Bool) (r : Refusal) (k : Result Unit Refusal) → cond t (Err r) k ≡ (Ok tt) → (t ≡ false) × (k ≡ (Ok tt))
+opens : (t : Bool) (r : Refusal) (k : Result Unit Refusal) → cond t (Err r) k ≡ Ok tt → (t ≡ false) × (k ≡ Ok tt)
 opens true r k e = absurd (let z : ◌≡◌ {A = ℕ} 0 1 = cc in omega arith)
 opens false r k e = (refl, e)
 
-checked_open : (s : State) (w o : ℕ) → checked s w o ≡ (Ok tt) → Allowed s w o 0
+checked_open : (s : State) (w o : ℕ) → checked s w o ≡ Ok tt → Allowed s w o 0
 unfolding checked
 checked_open s w o e =
     let a = opens (ltb w room) SmallBuffer _ e in
@@ -89,18 +89,18 @@ checked_open s w o e =
     record { window = ltb-false _ _ a.0; output = ltb-false _ _ b.0; held = c.0; sums = c.2; fits = omega arith; counted = c.3 }
 
 module _ (s : State) (w o p : ℕ) where
-  pub feed_allowed : feed_checked s w o p ≡ (Ok tt) → Allowed s w o p
+  pub feed_allowed : feed_checked s w o p ≡ Ok tt → Allowed s w o p
   unfolding feed_checked feed_checked_by
   feed_allowed e = go (checked s w o) refl e
     where
-      go : (g : Result Unit Refusal) → checked s w o ≡ g → feed_checked_by g s p ≡ (Ok tt) → Allowed s w o p
+      go : (g : Result Unit Refusal) → checked s w o ≡ g → feed_checked_by g s p ≡ Ok tt → Allowed s w o p
       go (Err r) x e = absurd (let z : ◌≡◌ {A = ℕ} 0 1 = cc in omega arith)
-      go (Ok tt) x e = test (eqb s.ended 0) e
+      go (Ok done) x e = test (eqb s.ended 0) e
         where
           a : Allowed s w o 0
           a = checked_open s w o x
 
-          test : (t : Bool) → cond t (cond (ltb limit (s.total + p)) (Err TooMuch) (Ok tt)) (Err Ended) ≡ (Ok tt) → Allowed s w o p
+          test : (t : Bool) → cond t (cond (ltb limit (s.total + p)) (Err TooMuch) (Ok tt)) (Err Ended) ≡ Ok tt → Allowed s w o p
           test true e =
               let b = opens (ltb limit (s.total + p)) TooMuch _ e in
               record { window = a.window; output = a.output; held = a.held; sums = a.sums; fits = ltb-false _ _ b.0; counted = a.counted }
@@ -119,7 +119,7 @@ finish_checked s w o = go (checked s w o) refl
   where
     go : (g : Result Unit Refusal) → checked s w o ≡ g → feed_checked_by g (unended s) 0 ≡ g
     go (Err r) e = refl
-    go (Ok tt) e = rw (le-ltb limit (s.total + 0) (checked_open s w o e).fits)
+    go (Ok done) e = rw (le-ltb limit (s.total + 0) (checked_open s w o e).fits)
 
 -- ---- what a call leaves
 -- the reply fits, and so do the bytes held and the bytes summed
@@ -177,7 +177,7 @@ module _ (s : State) (p w o : List ℕ) where
   unfolding feed_call
   feed_refused r a z q = rw z (record { reply = q; window = refl; output = refl })
 
-  pub feed_goes : (x : Outcome) (u : ℕ) (w₁ o₁ w₂ : List ℕ) (r : Reply) → feed_checked s (length w) (length o) (length p) ≡ (Ok tt) → CameTo (fed p (scan false (take s.held w) s.gap)) p w o x w₁ o₁
+  pub feed_goes : (x : Outcome) (u : ℕ) (w₁ o₁ w₂ : List ℕ) (r : Reply) → feed_checked s (length w) (length o) (length p) ≡ Ok tt → CameTo (fed p (scan false (take s.held w) s.gap)) p w o x w₁ o₁
       → Tested s.gap (take s.held w ++ p) x u → r ≡ reply_to s.total false x (s.summed + u) → w₂ ≡ take r.state.held w₁ ++ replicate (length w₁ - r.state.held) 0 → Leaves (feed_call s p w o) r w₂ o₁
   unfolding feed_call feed
   feed_goes (Message n g t h) u w₁ o₁ w₂ r z c k q v = rw z (fed_message s p w o _ w₁ w₂ o₁ r v n g t h u c k.sum q)
@@ -188,7 +188,7 @@ module _ (s : State) (w o : List ℕ) where
   unfolding finish_call
   finish_refused r a z q = rw (sym (finish_checked s (length w) (length o)) ∙ z) (record { reply = q; window = refl; output = refl })
 
-  pub finish_goes : (x : Outcome) (u : ℕ) (w₁ o₁ w₂ : List ℕ) (r : Reply) → feed_checked (unended s) (length w) (length o) 0 ≡ (Ok tt) → CameTo (fed [] (scan true (take s.held w) s.gap)) [] w o x w₁ o₁
+  pub finish_goes : (x : Outcome) (u : ℕ) (w₁ o₁ w₂ : List ℕ) (r : Reply) → feed_checked (unended s) (length w) (length o) 0 ≡ Ok tt → CameTo (fed [] (scan true (take s.held w) s.gap)) [] w o x w₁ o₁
       → Tested s.gap (take s.held w ++ []) x u → r ≡ reply_to s.total true x (s.summed + u) → w₂ ≡ take r.state.held w₁ ++ replicate (length w₁ - r.state.held) 0 → Leaves (finish_call s w o) r w₂ o₁
   unfolding finish_call finish
   finish_goes (Message n g t h) u w₁ o₁ w₂ r z c k q v = rw (sym (finish_checked s (length w) (length o)) ∙ z) (finished_message s [] w o _ w₁ w₂ o₁ r v n g t h u c refl (rw (append-nil (take s.held w)) at k.sum) q)

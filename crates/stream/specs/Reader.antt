@@ -37,7 +37,7 @@ checked s w o =
 -- 10: feed after the end was announced; 11: total + length of the offered piece is above 2 ^ 48
 unfoldable pub feed_checked_by : Result Unit Refusal → State → ℕ → Result Unit Refusal
 feed_checked_by (Err r) s p = Err r
-feed_checked_by (Ok tt) s p = cond (eqb s.ended 0) (cond (ltb limit (s.total + p)) (Err TooMuch) (Ok tt)) (Err Ended)
+feed_checked_by (Ok done) s p = cond (eqb s.ended 0) (cond (ltb limit (s.total + p)) (Err TooMuch) (Ok tt)) (Err Ended)
 
 unfoldable pub feed_checked : State → ℕ → ℕ → ℕ → Result Unit Refusal
 feed_checked s w o p = feed_checked_by (checked s w o) s p
@@ -92,7 +92,7 @@ fed_call s w o p (more g h) =
 
 abbrev pub feed_by : Result Unit Refusal → State → List ℕ → List ℕ → List ℕ → Call
 feed_by (Err r) s p w o = refusal r s w o
-feed_by (Ok tt) s p w o = fed_call s w o p (feed (take s.held w) s.gap p)
+feed_by (Ok done) s p w o = fed_call s w o p (feed (take s.held w) s.gap p)
 
 unfoldable pub feed_call : State → List ℕ → List ℕ → List ℕ → Call
 feed_call s p w o = feed_by (feed_checked s (length w) (length o) (length p)) s p w o
@@ -113,7 +113,7 @@ finished_call s w o (more g h) =
 
 abbrev pub finish_by : Result Unit Refusal → State → List ℕ → List ℕ → Call
 finish_by (Err r) s w o = refusal r s w o
-finish_by (Ok tt) s w o = finished_call s w o (finish (take s.held w) s.gap)
+finish_by (Ok done) s w o = finished_call s w o (finish (take s.held w) s.gap)
 
 unfoldable pub finish_call : State → List ℕ → List ℕ → Call
 finish_call s w o = finish_by (checked s (length w) (length o)) s w o

@@ -70,14 +70,14 @@ Divided ended held gap p w o r w' o' =
     CameTo (fed p (scan ended (take held w) gap)) p w o r.outcome w' o' × Tested gap (take held w ++ p) r.outcome r.summed
 
 -- ---- the reply to it, of a finish or of a feed
-abbrev pub no_message : Bool → ℕ → Result Answer Refusal
-no_message ended g = cond ended (Ok (End g)) (Ok NeedsMore)
+abbrev pub no_message : Bool → ℕ → Answer
+no_message ended g = cond ended (End g) NeedsMore
 
 abbrev pub reply_to : ℕ → Bool → Outcome → ℕ → Reply
 reply_to total ended (Message n g t h) summed =
     record { answer = Ok (Answered n g t); state = record { held = h; gap = 0; total = total + t; ended = bool_byte ended; summed = summed } }
 reply_to total ended (Nothing g t h) summed =
-    record { answer = no_message ended g; state = record { held = h; gap = g; total = total + t; ended = bool_byte ended; summed = summed } }
+    record { answer = Ok (no_message ended g); state = record { held = h; gap = g; total = total + t; ended = bool_byte ended; summed = summed } }
 
 -- with what the call summed added to the state's count
 abbrev pub reply_after : State → Bool → Counted → Reply

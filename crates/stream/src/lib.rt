@@ -344,32 +344,36 @@ fn conclude(state: State, ended: bool, counted: Counted, window: &mut [u8]) -> R
 pub fn feed(state: State, piece: &[u8], window: &mut [u8], output: &mut [u8]) -> Reply
     ensures { Leaves (feed_call state piece.now window.old output.old) result window.new output.new }
 {
-    if let Err(refusal) = checks(state, state.ended, window.len(), output.len(), piece.len()) {
-        return Reply {
+    match checks(state, state.ended, window.len(), output.len(), piece.len()) {
+        Err(refusal) => Reply {
             answer: Err(refusal),
             state,
-        };
+        },
+        Ok(()) => {
+            let held = state.held as usize;
+            let gap = state.gap as usize;
+            let counted = divide(false, held, gap, piece, window, output);
+            conclude(state, false, counted, window)
+        }
     }
-    let held = state.held as usize;
-    let gap = state.gap as usize;
-    let counted = divide(false, held, gap, piece, window, output);
-    conclude(state, false, counted, window)
 }
 
 // The end of the stream: the remaining messages one a call, then the end, the same each time after (8, 9).
 pub fn finish(state: State, window: &mut [u8], output: &mut [u8]) -> Reply
     ensures { Leaves (finish_call state window.old output.old) result window.new output.new }
 {
-    if let Err(refusal) = checks(state, 0, window.len(), output.len(), 0) {
-        return Reply {
+    match checks(state, 0, window.len(), output.len(), 0) {
+        Err(refusal) => Reply {
             answer: Err(refusal),
             state,
-        };
+        },
+        Ok(()) => {
+            let held = state.held as usize;
+            let gap = state.gap as usize;
+            let counted = divide(true, held, gap, b"", window, output);
+            conclude(state, true, counted, window)
+        }
     }
-    let held = state.held as usize;
-    let gap = state.gap as usize;
-    let counted = divide(true, held, gap, b"", window, output);
-    conclude(state, true, counted, window)
 }
 
 // The state before the first byte.

@@ -7,21 +7,21 @@ use Rattle.stream.proofs.finish.Goals as goal
 
 pub divide-counted-requires : goal.divide-counted-requires
 divide-counted-requires c =
-    (allowed_fits _ _ _ _ (feed_allowed _ _ _ _ (sym c.in-Open.ensures)), λ z. refl)
+    (allowed_fits _ _ _ _ (feed_allowed _ _ _ _ (sym c.in-Ok.ensures)), λ z. refl)
 
 pub conclude-requires : goal.conclude-requires
 conclude-requires c =
     let x = c.args in
-    let a = feed_allowed _ _ _ _ (sym c.in-Open.ensures) in
+    let a = feed_allowed _ _ _ _ (sym c.in-Ok.ensures) in
     came_fits true (unended x.state) _ [] x.window.now x.output.now c.divide-counted.result.outcome _ _ _ a c.divide-counted.ensures.0 c.divide-counted.ensures.1
 
-pub returns-in-Refused : goal.returns-in-Refused
-returns-in-Refused c =
+pub returns-in-Err : goal.returns-in-Err
+returns-in-Err c =
     let x = c.args in
-    finish_refused x.state x.window.now x.output.now _ _ (sym c.in-Refused.ensures) c.refused.ensures
+    finish_refused x.state x.window.now x.output.now _ _ (sym c.in-Err.ensures) refl
 
-pub returns-in-Open : goal.returns-in-Open
-returns-in-Open c =
+pub returns-in-Ok : goal.returns-in-Ok
+returns-in-Ok c =
     let x = c.args in
-    finish_goes x.state x.window.now x.output.now c.divide-counted.result.outcome _ _ _ _ _ (sym c.in-Open.ensures)
+    finish_goes x.state x.window.now x.output.now c.divide-counted.result.outcome _ _ _ _ _ (sym c.in-Ok.ensures)
     c.divide-counted.ensures.0 c.divide-counted.ensures.1 c.conclude.ensures.0 c.conclude.ensures.1
