@@ -70,19 +70,21 @@ fn cover(recording: &[u8], position: usize) -> usize
 {
     let mut at = 0;
     while at < position {
-        let Ok(Next::Message {
-            position: start,
-            length,
-            ..
-        }) = division::next_message(recording, at)
-        else {
-            return position;
-        };
-        let end = start + length;
-        if position < end {
-            return if start < position { start } else { position };
+        match division::next_message(recording, at) {
+            Ok(Next::Message {
+                position: start,
+                length,
+                ..
+            }) => {
+                let end = start + length;
+                if position < end {
+                    return if start < position { start } else { position };
+                }
+                at = end;
+            }
+            Ok(Next::End { .. }) => return position,
+            Err(_) => return position,
         }
-        at = end;
     }
     position
 }
