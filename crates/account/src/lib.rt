@@ -1,17 +1,18 @@
 // The account of a short recording: the reason of each position, a line each, put into a lent buffer as `text` puts numbers.
 #![tactic(auto)]
 
-ghost use Rattle.std.specs.Prelude.{◌≡◌, ◌+◌, ◌-◌, ◌<◌};
+ghost use Rattle.std.specs.Prelude.{◌≡◌, ◌+◌, ◌-◌, ◌<◌, Ok};
 ghost use Rattle.text.specs.Put.{Puts};
 ghost use Rattle.account.specs.Account.{said_text, reason_text, lines_of, account_text, report_text};
 ghost use Rattle.account.specs.Steps.{span_of, inside_of};
 
 use reason::Reason;
+use refusal::Refusal;
 
 // ---- a line
 
 fn put_residue(out: &mut [u8], at: usize, residue: u8) -> usize
-    ensures { Puts out.old at (said_text (Reason.Checksum residue)) result out.new }
+    ensures { Puts out.old at (said_text (Ok (Reason.Checksum residue))) result out.new }
 {
     let next = text::put_all(out, at, b"checksum ");
     let next = text::put_hex(out, next, residue as u64, 2);
@@ -19,28 +20,33 @@ fn put_residue(out: &mut [u8], at: usize, residue: u8) -> usize
 }
 
 // The reason and its value.
-fn put_said(out: &mut [u8], at: usize, reason: Reason) -> usize
+fn put_said(out: &mut [u8], at: usize, reason: Result<Reason, Refusal>) -> usize
     ensures { Puts out.old at (said_text reason) result out.new }
 {
     match reason {
-        Reason::Refused(refusal) => text::put_count(
+        Err(refusal) => text::put_count(
             out,
             at,
             b"refused ",
             refusal::number(refusal),
             b'\n',
         ),
-        Reason::Inside(start) => text::put_count(out, at, b"inside ", start as u64, b'\n'),
-        Reason::Given(length) => text::put_count(out, at, b"given ", length as u64, b'\n'),
-        Reason::Sync(byte) => text::put_count(out, at, b"sync ", byte as u64, b'\n'),
-        Reason::CutUnknown => text::put_all(out, at, b"short -\n"),
-        Reason::CutShort(missing) => text::put_count(out, at, b"short ", missing as u64, b'\n'),
-        Reason::Checksum(residue) => put_residue(out, at, residue),
+        Ok(Reason::Inside(start)) => text::put_count(out, at, b"inside ", start as u64, b'\n'),
+        Ok(Reason::Given(length)) => text::put_count(out, at, b"given ", length as u64, b'\n'),
+        Ok(Reason::Sync(byte)) => text::put_count(out, at, b"sync ", byte as u64, b'\n'),
+        Ok(Reason::CutUnknown) => text::put_all(out, at, b"short -\n"),
+        Ok(Reason::CutShort(missing)) => text::put_count(out, at, b"short ", missing as u64, b'\n'),
+        Ok(Reason::Checksum(residue)) => put_residue(out, at, residue),
     }
 }
 
 // The line of a position.
-fn put_reason(out: &mut [u8], at: usize, position: u64, reason: Reason) -> usize
+fn put_reason(
+    out: &mut [u8],
+    at: usize,
+    position: u64,
+    reason: Result<Reason, Refusal>,
+) -> usize
     ensures { Puts out.old at (reason_text position reason) result out.new }
 {
     let next = text::put_number(out, at, position, b' ');
@@ -50,10 +56,10 @@ fn put_reason(out: &mut [u8], at: usize, position: u64, reason: Reason) -> usize
 // ---- all lines
 
 // How far the next position lies that no message covers.
-fn span(reason: Reason) -> usize
+fn span(reason: Result<Reason, Refusal>) -> usize
     ensures { result ≡ span_of reason }
 {
-    let Reason::Given(length) = reason else {
+    let Ok(Reason::Given(length)) = reason else {
         return 1;
     };
     length
@@ -67,7 +73,7 @@ fn put_inside(out: &mut [u8], at: usize, start: usize, end: usize) -> usize
     let mut next = at;
     let mut position = start + 1;
     while position < end {
-        next = put_reason(out, next, position as u64, Reason::Inside(start));
+        next = put_reason(out, next, position as u64, Ok(Reason::Inside(start)));
         position += 1;
     }
     next

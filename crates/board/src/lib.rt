@@ -34,8 +34,8 @@ pub fn cs_check(message: &[u8]) -> u64
     ensures { result ≡ check_number (verdict message.now) }
 {
     match macm::check(message) {
-        macm::Verdict::Refused(refusal) => refusal::number(refusal),
-        macm::Verdict::Accepted(_, _) => 0,
+        Err(refusal) => refusal::number(refusal),
+        Ok(_) => 0,
     }
 }
 

@@ -9,8 +9,8 @@ ghost use Rattle.history.specs.Calls.{claimed_call};
 ghost use Rattle.lines.specs.Breaks.{which_text, break_text, breaks_up_to, Prints};
 ghost use Rattle.lines.specs.Rows.{head_text, range_text, phase_text, polarity_text, shown_text, observation_text, row_text, rows_up_to, rows_text};
 
-use history::Breaks;
-use macm::{Form, Head, Header, Observation, Observed};
+use macm::{Form, Header, Observation};
+use refusal::Refusal;
 use track::Phase;
 
 // ---- the listing
@@ -41,10 +41,8 @@ pub fn put_line(out: &mut [u8], at: usize, position: u64, message: &[u8]) -> usi
     ensures { Puts out.old at (line_text position message.now) result out.new }
 {
     match macm::claimed_header(message) {
-        Head::Refused(_) => at,
-        Head::Read(header, count) => {
-            put_read(out, at, position, message.len() as u16, header, count)
-        }
+        Err(_) => at,
+        Ok((header, count)) => put_read(out, at, position, message.len() as u16, header, count),
     }
 }
 
@@ -141,12 +139,18 @@ fn put_row(out: &mut [u8], at: usize, head: &[u8], form: Form, observation: Obse
 }
 
 // The row of what was read: none of a refusal.
-fn put_observed(out: &mut [u8], at: usize, head: &[u8], form: Form, observed: Observed) -> usize
+fn put_observed(
+    out: &mut [u8],
+    at: usize,
+    head: &[u8],
+    form: Form,
+    observed: Result<Observation, Refusal>,
+) -> usize
     ensures { Puts out.old at (row_text head.now form observed) result out.new }
 {
     match observed {
-        Observed::Refused(_) => at,
-        Observed::Read(observation) => put_row(out, at, head, form, observation),
+        Err(_) => at,
+        Ok(observation) => put_row(out, at, head, form, observation),
     }
 }
 
@@ -172,7 +176,7 @@ fn put_observations(
 pub fn put_rows(out: &mut [u8], at: usize, position: u64, message: &[u8]) -> usize
     ensures { Puts out.old at (rows_text position message.now) result out.new }
 {
-    let Head::Read(header, count) = macm::claimed_header(message) else {
+    let Ok((header, count)) = macm::claimed_header(message) else {
         return at;
     };
     let form = header.form;
@@ -234,7 +238,7 @@ pub fn put_breaks(
     ensures { Prints out.old at position (claimed_call message.now history.old list.old) result out.new history.new list.new }
 {
     match history::claimed_breaks(message, history, list) {
-        Breaks::Refused(_) => at,
-        Breaks::Listed(count) => put_listed(out, at, position, list, count),
+        Err(_) => at,
+        Ok(count) => put_listed(out, at, position, list, count),
     }
 }

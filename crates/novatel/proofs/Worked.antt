@@ -43,7 +43,7 @@ written_places = refl
 pub deviations_of_it : (range_deviation 0 ≡ 50) × (adr_deviation 4 ≡ 5)
 deviations_of_it = (refl, refl)
 
-pub corrected_places : correction_of published ≡ Ok (record { rolls = (pos 16); adr = (negsuc 34462008790) })
+pub corrected_places : correction_of published ≡ Ok (record { rolls = pos 16; adr = negsuc 34462008790 })
 unfolding correction_of correction_in says_gps record_of field_of little rolls_of corrected_of
 corrected_places = refl
 

@@ -34,11 +34,10 @@ use Rattle.history.specs.Breaks.{Kept, after_all, begun}
 use Rattle.history.specs.Calls.{refusing, listing, call_by, next_call, claimed_call}
 use Rattle.division.specs.Division.{Division, last, part as onward, divide}
 use Rattle.division.specs.Plain.{first_of, next_of}
-use Rattle.division.specs.declared.Next.TheVariants.{Refused as NotFound}
 use Rattle.front.specs.declared.Claim.{Claim}
 use Rattle.front.specs.declared.Claim.TheVariants.{Nothing, AtLeast, Long}
 use Rattle.front.specs.Claim.{claim}
-use Rattle.reason.specs.declared.Reason.TheVariants.{Refused as NoReason, Inside, Given, CutShort, Checksum}
+use Rattle.reason.specs.declared.Reason.TheVariants.{Inside, Given, CutShort, Checksum}
 use Rattle.reason.specs.Reason.{residue_of, summed, said_by, here_of, cover_of, reason_of}
 use Rattle.reason.proofs.HereSteps.{here_some}
 use Rattle.stream.specs.declared.State.{State}
@@ -229,19 +228,19 @@ pub next_table : (s : List ℕ) (start : ℕ) → NextTable s start (next_number
 unfolding next_of
 next_table s start = go (ltb (length s) start) refl (divide (drop start s) 0)
   where
-    go : (a : Bool) → ltb (length s) start ≡ a → (d : Division) → NextTable s start (next_number (cond a (NotFound PastEnd) (first_of start d)))
+    go : (a : Bool) → ltb (length s) start ≡ a → (d : Division) → NextTable s start (next_number (cond a (Err PastEnd) (Ok (first_of start d))))
     go true p d = inl (refl, ltb-true (length s) start p)
     go false p (last g) = inr (refl, ltb-false (length s) start p)
     go false p (onward g m d) = inr (refl, ltb-false (length s) start p)
 
 -- ---- the reason at a position
-said_number : (c : Claim) (xs : List ℕ) → reason_number (said_by c xs) ≡ 0
+said_number : (c : Claim) (xs : List ℕ) → reason_number (Ok (said_by c xs)) ≡ 0
 unfolding said_by summed
 said_number Nothing xs = refl
 said_number (AtLeast k) xs = refl
 said_number (Long n) xs = go (leb n (length xs)) (eqb (residue_of n xs) 0)
   where
-    go : (a b : Bool) → reason_number (cond a (cond b (Given n) (Checksum (residue_of n xs))) (CutShort (n - length xs))) ≡ 0
+    go : (a b : Bool) → reason_number (Ok (cond a (cond b (Given n) (Checksum (residue_of n xs))) (CutShort (n - length xs)))) ≡ 0
     go true true = refl
     go true false = refl
     go false b = refl
@@ -250,7 +249,7 @@ pub reason_table : (s : List ℕ) (p : ℕ) → ReasonTable s p (reason_number (
 unfolding reason_of
 reason_table s p = go (ltb p (length s)) refl (ltb (cover_of s p) p)
   where
-    go : (a : Bool) → ltb p (length s) ≡ a → (b : Bool) → ReasonTable s p (reason_number (cond a (cond b (Inside (cover_of s p)) (here_of (drop p s))) (NoReason PastEnd)))
+    go : (a : Bool) → ltb p (length s) ≡ a → (b : Bool) → ReasonTable s p (reason_number (cond a (cond b (Ok (Inside (cover_of s p))) (here_of (drop p s))) (Err PastEnd)))
     go false e b = inl (refl, ltb-false p (length s) e)
     go true e true = inr (refl, ltb-true p (length s) e)
     go true e false =
@@ -274,7 +273,7 @@ correction_table s = go (eqb (length s) 24) refl (eqb (cut 16 3 status) 0) refl 
     status = (record_of s).status
 
     there : Result Corrected Refusal
-    there = Ok (record { rolls = (rolls_of (record_of s).range (record_of s).adr); adr = (corrected_of (record_of s).range (record_of s).adr) })
+    there = Ok (record { rolls = rolls_of (record_of s).range (record_of s).adr; adr = corrected_of (record_of s).range (record_of s).adr })
 
     go : (a : Bool) → eqb (length s) 24 ≡ a → (b : Bool) → eqb (cut 16 3 status) 0 ≡ b → (c : Bool) → eqb (cut 21 5 status) 0 ≡ c
         → CorrectionTable s (correction_number (cond a (cond (b && c) there (Err OtherSignal)) (Err OtherLength)))

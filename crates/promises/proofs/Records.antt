@@ -1,6 +1,6 @@
 -- E4: a record that is read is written as the same bytes, and one that is written is read as the same record; the rolls of an ADR are the whole number
 -- nearest to the exact fraction, halves away from zero, and no other is. Assumes nothing.
-use Rattle.std.specs.Prelude.{Ok, Err}
+use Rattle.std.specs.Prelude.{Ok, Err, Result}
 use Prim.Native.Nat.{ℕ, suc, ◌-◌, ◌*◌, ◌^◌, ◌≤◌}
 use mathlib.Core.Path.{◌≡◌, refl, sym, ap, ap₂, ◌∙◌, subst}
 use mathlib.Core.Bool.{Bool, true, false, cond}
@@ -16,6 +16,8 @@ use Rattle.octets.specs.Parts.{over}
 use Rattle.bits.specs.Joined.{joined}
 use Rattle.bits.proofs.Bytes.{length_little_bytes}
 use Rattle.refusal.specs.declared.Refusal.TheVariants.{OtherLength, OtherSignal}
+use Rattle.novatel.specs.declared.Corrected.{Corrected}
+use Rattle.refusal.specs.declared.Refusal.{Refusal}
 use Rattle.novatel.specs.declared.Record.{Record}
 use Rattle.novatel.specs.Record.{record_of, record_bytes, fields_of, fits}
 use Rattle.novatel.specs.Entries.{reading_of, writing_of, writing_bytes, says_gps, correction_in, correction_of}
@@ -72,11 +74,16 @@ corrected_exactly s k c e = go (eqb (length s) 24) (says_gps (record_of s).statu
     a : ℤ
     a = (record_of s).adr
 
-    go : (t u : Bool) → cond t (cond u (Ok (record { rolls = (rolls_of p a); adr = (corrected_of p a) })) (Err OtherSignal)) (Err OtherLength) ≡ Ok (record { rolls = k; adr = c })
+    it : Corrected
+    it = record { rolls = rolls_of p a; adr = corrected_of p a }
+
+    go : (t u : Bool) → cond {A = Result Corrected Refusal} t (cond u (Ok it) (Err OtherSignal)) (Err OtherLength) ≡ Ok (record { rolls = k; adr = c })
         → NearestAway (numerator p a) denominator k × (c ≡ a -ℤ pos (2 ^ 31) *ℤ k)
     go true true q =
-        let rolls : rolls_of p a ≡ k = cc in
-        let less-rolls : corrected_of p a ≡ c = cc in
+        let asked : Corrected = record { rolls = k; adr = c } in
+        let same : it ≡ asked = cc in
+        let rolls : rolls_of p a ≡ k = ap (λ r. r.rolls) same in
+        let less-rolls : corrected_of p a ≡ c = ap (λ r. r.adr) same in
         (subst (NearestAway (numerator p a) denominator) rolls (rolls_nearest p a), sym less-rolls ∙ ap (λ (y : ℤ). a -ℤ pos (2 ^ 31) *ℤ y) rolls)
     go true false q = absurd (let z : ◌≡◌ {A = ℕ} 0 1 = cc in omega arith)
     go false u q = absurd (let z : ◌≡◌ {A = ℕ} 0 1 = cc in omega arith)

@@ -12,9 +12,9 @@ use Rattle.refusal.specs.Written.{written_number}
 use Rattle.compose.specs.Convert.{allowed}
 use Rattle.history.specs.Calls as history
 use Rattle.division.specs.declared.Next.{Next}
-use Rattle.division.specs.declared.Next.TheVariants.{Refused as NotFound, Message as Found, End as NoneLeft}
+use Rattle.division.specs.declared.Next.TheVariants.{Message as Found, End as NoneLeft}
 use Rattle.reason.specs.declared.Reason.{Reason}
-use Rattle.reason.specs.declared.Reason.TheVariants.{Refused as NoReason, Inside, Given, Sync, CutUnknown, CutShort, Checksum}
+use Rattle.reason.specs.declared.Reason.TheVariants.{Inside, Given, Sync, CutUnknown, CutShort, Checksum}
 use Rattle.stream.specs.declared.State.{State}
 use Rattle.stream.specs.declared.Answer.{Answer}
 use Rattle.stream.specs.declared.Answer.TheVariants.{NeedsMore, Message, End}
@@ -35,19 +35,19 @@ abbrev pub observed_number : Result Observation Refusal → ℕ
 observed_number (Err r) = number_of r
 observed_number (Ok o) = 0
 
-abbrev pub next_number : Next → ℕ
-next_number (NotFound r) = number_of r
-next_number (Found p n g) = 0
-next_number (NoneLeft g) = 0
+abbrev pub next_number : Result Next Refusal → ℕ
+next_number (Err r) = number_of r
+next_number (Ok (Found p n g)) = 0
+next_number (Ok (NoneLeft g)) = 0
 
-abbrev pub reason_number : Reason → ℕ
-reason_number (NoReason r) = number_of r
-reason_number (Inside q) = 0
-reason_number (Given n) = 0
-reason_number (Sync k) = 0
-reason_number CutUnknown = 0
-reason_number (CutShort n) = 0
-reason_number (Checksum residue) = 0
+abbrev pub reason_number : Result Reason Refusal → ℕ
+reason_number (Err r) = number_of r
+reason_number (Ok (Inside q)) = 0
+reason_number (Ok (Given n)) = 0
+reason_number (Ok (Sync k)) = 0
+reason_number (Ok CutUnknown) = 0
+reason_number (Ok (CutShort n)) = 0
+reason_number (Ok (Checksum residue)) = 0
 
 abbrev pub record_number : Result Record Refusal → ℕ
 record_number (Err r) = number_of r
@@ -55,7 +55,7 @@ record_number (Ok r) = 0
 
 abbrev pub correction_number : Result Corrected Refusal → ℕ
 correction_number (Err r) = number_of r
-correction_number (Ok (record { rolls = rolls; adr = adr })) = 0
+correction_number (Ok c) = 0
 
 abbrev pub answer_number : Result Answer Refusal → ℕ
 answer_number (Err r) = number_of r

@@ -100,7 +100,7 @@ module _ (s : State) (w o p : ℕ) where
           a : Allowed s w o 0
           a = checked_open s w o x
 
-          test : (t : Bool) → cond t (cond (ltb limit (s.total + p)) (Err TooMuch) (Ok tt)) (Err Ended) ≡ Ok tt → Allowed s w o p
+          test : (t : Bool) → cond {A = Result Unit Refusal} t (cond (ltb limit (s.total + p)) (Err TooMuch) (Ok tt)) (Err Ended) ≡ Ok tt → Allowed s w o p
           test true e =
               let b = opens (ltb limit (s.total + p)) TooMuch _ e in
               record { window = a.window; output = a.output; held = a.held; sums = a.sums; fits = ltb-false _ _ b.0; counted = a.counted }

@@ -3,8 +3,7 @@
 #![tactic(auto)]
 
 use division::Next;
-use macm::Verdict;
-use novatel::{Correction, Reading, Record};
+use novatel::{Corrected, Record};
 use std::io::{Read, Write};
 use std::{fs, io};
 use stream::{Answer, Reply};
@@ -46,17 +45,17 @@ fn put_recording(text: &mut [u8], at: usize, recording: &[u8]) -> usize {
     let mut start = 0;
     for _ in 0..u64::MAX {
         match division::next_message(recording, start) {
-            Next::Message {
+            Ok(Next::Message {
                 position,
                 length,
                 gap,
-            } => {
+            }) => {
                 let message = division::message_part(recording, start);
                 next = put_given(text, next, gap as u64, position as u64, message);
                 start = std::num::wrapping_add_usize(position, length);
             }
-            Next::End { gap } => return put_count(text, next, b"gap ", gap as u64),
-            Next::Refused(_) => return next,
+            Ok(Next::End { gap }) => return put_count(text, next, b"gap ", gap as u64),
+            Err(_) => return next,
         }
     }
     next
@@ -64,20 +63,20 @@ fn put_recording(text: &mut [u8], at: usize, recording: &[u8]) -> usize {
 
 fn put_check(text: &mut [u8], at: usize, message: &[u8]) -> usize {
     match macm::check(message) {
-        Verdict::Refused(refusal) => put_count(text, at, b"check ", refusal::number(refusal)),
-        Verdict::Accepted(_, _) => put_count(text, at, b"check ", 0),
+        Err(refusal) => put_count(text, at, b"check ", refusal::number(refusal)),
+        Ok(_) => put_count(text, at, b"check ", 0),
     }
 }
 
 fn put_reply(text: &mut [u8], at: usize, reply: Reply, output: &[u8]) -> usize {
     let answer = reply.answer;
     match answer {
-        Answer::NeedsMore => text::put_all(text, at, b"needs more\n"),
-        Answer::Message { length, gap, .. } => {
+        Ok(Answer::NeedsMore) => text::put_all(text, at, b"needs more\n"),
+        Ok(Answer::Message { length, gap, .. }) => {
             put_given(text, at, gap, gap, text::front(output, length as usize))
         }
-        Answer::End { gap } => put_count(text, at, b"end gap ", gap),
-        Answer::Refused(refusal) => put_count(text, at, b"refused ", refusal::number(refusal)),
+        Ok(Answer::End { gap }) => put_count(text, at, b"end gap ", gap),
+        Err(refusal) => put_count(text, at, b"refused ", refusal::number(refusal)),
     }
 }
 
@@ -174,18 +173,18 @@ fn put_fields(text: &mut [u8], at: usize, r: Record) -> usize {
 
 fn put_correction(text: &mut [u8], at: usize, bytes: &[u8]) -> usize {
     match novatel::corrected_adr(bytes) {
-        Correction::Corrected { rolls, adr } => {
+        Ok(Corrected { rolls, adr }) => {
             let next = put_signed(text, at, b"rolls ", rolls);
             put_signed(text, next, b"corrected ", adr)
         }
-        Correction::Refused(refusal) => put_count(text, at, b"refused ", refusal::number(refusal)),
+        Err(refusal) => put_count(text, at, b"refused ", refusal::number(refusal)),
     }
 }
 
 fn put_reading(text: &mut [u8], at: usize, bytes: &[u8]) -> usize {
     match novatel::read_record(bytes) {
-        Reading::Read(r) => put_fields(text, at, r),
-        Reading::Refused(refusal) => put_count(text, at, b"refused ", refusal::number(refusal)),
+        Ok(r) => put_fields(text, at, r),
+        Err(refusal) => put_count(text, at, b"refused ", refusal::number(refusal)),
     }
 }
 

@@ -12,15 +12,14 @@ use Rattle.macm.specs.declared.Header.{Header}
 use Rattle.macm.specs.declared.Observation.{Observation}
 use Rattle.refusal.specs.Written.{written_number, written_length}
 use Rattle.division.specs.declared.Next.{Next}
-use Rattle.division.specs.declared.Next.TheVariants.{Refused as NotFound, Message as Found, End as NoneLeft}
+use Rattle.division.specs.declared.Next.TheVariants.{Message as Found, End as NoneLeft}
 use Rattle.reason.specs.declared.Reason.{Reason}
-use Rattle.reason.specs.declared.Reason.TheVariants.{Refused as NoReason, Inside, Given, Sync, CutUnknown, CutShort, Checksum}
+use Rattle.reason.specs.declared.Reason.TheVariants.{Inside, Given, Sync, CutUnknown, CutShort, Checksum}
 use Rattle.stream.specs.declared.Answer.{Answer}
 use Rattle.stream.specs.declared.Answer.TheVariants.{NeedsMore, Message, End}
 use Rattle.track.specs.declared.Phase.{Phase}
 use Rattle.track.specs.declared.Phase.TheVariants.{Withheld, NotFinite, PolarityUnknown, NotCorrected, DueHalf, PolarityUndefined}
 use Rattle.novatel.specs.declared.Record.{Record}
-use Rattle.novatel.specs.declared.Reading as novatel
 use Rattle.words.specs.declared.HeaderWords.{HeaderWords}
 use Rattle.words.specs.declared.ObservationWords.{ObservationWords}
 use Rattle.words.specs.declared.HeadWords.{HeadWords}
@@ -119,20 +118,20 @@ listed_words (Err r) = record { refusal = number_of r; count = 0 }
 listed_words (Ok n) = record { refusal = 0; count = n }
 
 -- kind 1 is a message, 2 the end
-abbrev pub found_words : Next → FoundWords
-found_words (NotFound r) = record { refusal = number_of r; kind = 0; position = 0; length = 0; gap = 0 }
-found_words (Found p n g) = record { refusal = 0; kind = 1; position = p; length = n; gap = g }
-found_words (NoneLeft g) = record { refusal = 0; kind = 2; position = 0; length = 0; gap = g }
+abbrev pub found_words : Result Next Refusal → FoundWords
+found_words (Err r) = record { refusal = number_of r; kind = 0; position = 0; length = 0; gap = 0 }
+found_words (Ok (Found p n g)) = record { refusal = 0; kind = 1; position = p; length = n; gap = g }
+found_words (Ok (NoneLeft g)) = record { refusal = 0; kind = 2; position = 0; length = 0; gap = g }
 
 -- kind 1 is inside, 2 given, 3 a wrong sync, 4 cut short before the count byte, 5 cut short, 6 a wrong checksum
-abbrev pub reason_words : Reason → ReasonWords
-reason_words (NoReason r) = record { refusal = number_of r; kind = 0; value = 0 }
-reason_words (Inside q) = record { refusal = 0; kind = 1; value = q }
-reason_words (Given n) = record { refusal = 0; kind = 2; value = n }
-reason_words (Sync k) = record { refusal = 0; kind = 3; value = k }
-reason_words CutUnknown = record { refusal = 0; kind = 4; value = 0 }
-reason_words (CutShort n) = record { refusal = 0; kind = 5; value = n }
-reason_words (Checksum residue) = record { refusal = 0; kind = 6; value = residue }
+abbrev pub reason_words : Result Reason Refusal → ReasonWords
+reason_words (Err r) = record { refusal = number_of r; kind = 0; value = 0 }
+reason_words (Ok (Inside q)) = record { refusal = 0; kind = 1; value = q }
+reason_words (Ok (Given n)) = record { refusal = 0; kind = 2; value = n }
+reason_words (Ok (Sync k)) = record { refusal = 0; kind = 3; value = k }
+reason_words (Ok CutUnknown) = record { refusal = 0; kind = 4; value = 0 }
+reason_words (Ok (CutShort n)) = record { refusal = 0; kind = 5; value = n }
+reason_words (Ok (Checksum residue)) = record { refusal = 0; kind = 6; value = residue }
 
 -- kind 0 needs more, and then all of the bytes offered are taken; 1 is a message, 2 the end
 abbrev pub answer_words : Result Answer Refusal → ℕ → AnswerWords
@@ -170,10 +169,10 @@ record_out k r =
 abbrev pub no_record : Record
 no_record = record { status = 0; doppler = pos 0; range = 0; adr = pos 0; range_deviation = 0; adr_deviation = 0; prn = 0; lock = 0; cn0 = 0; reserved = 0 }
 
-abbrev pub record_words : novatel.Reading → RecordWords
+abbrev pub record_words : Result Record Refusal → RecordWords
 record_words (Err r) = record_out (number_of r) no_record
 record_words (Ok r) = record_out 0 r
 
 abbrev pub adr_words : Result Corrected Refusal → AdrWords
 adr_words (Err r) = record { refusal = number_of r; rolls = pos 0; adr = pos 0 }
-adr_words (Ok (record { rolls = rolls; adr = adr })) = record { refusal = 0; rolls = rolls; adr = adr }
+adr_words (Ok c) = record { refusal = 0; rolls = c.rolls; adr = c.adr }

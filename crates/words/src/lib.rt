@@ -6,11 +6,10 @@ ghost use Rattle.std.specs.Prelude.{◌≡◌};
 ghost use Rattle.words.specs.Words.{low_bits, form_in, header_in, observation_in, header_words, observation_words, head_words, observed_words, written_words, found_words, reason_words, answer_words, phase_words, listed_words, record_in, record_out, record_words, adr_words};
 
 use division::Next;
-use history::Breaks;
-use macm::{Form, Head, Header, Observation, Observed};
-use novatel::{Correction, Record};
+use macm::{Form, Header, Observation};
+use novatel::{Corrected, Record};
 use reason::Reason;
-use refusal::Written;
+use refusal::Refusal;
 use stream::Answer;
 use track::Phase;
 
@@ -234,16 +233,16 @@ fn observation_words(o: Observation) -> ObservationWords
     }
 }
 
-pub fn head_words(head: Head) -> HeadWords
+pub fn head_words(head: Result<(Header, u8), Refusal>) -> HeadWords
     ensures { result ≡ head_words head }
 {
     match head {
-        Head::Refused(refusal) => HeadWords {
+        Err(refusal) => HeadWords {
             refusal: refusal::number(refusal),
             count: 0,
             header: header_of(0, 0, 0, 0, 0, 0),
         },
-        Head::Read(header, count) => HeadWords {
+        Ok((header, count)) => HeadWords {
             refusal: 0,
             count: count as u64,
             header: header_words(header),
@@ -251,11 +250,11 @@ pub fn head_words(head: Head) -> HeadWords
     }
 }
 
-pub fn observed_words(observed: Observed) -> ObservedWords
+pub fn observed_words(observed: Result<Observation, Refusal>) -> ObservedWords
     ensures { result ≡ observed_words observed }
 {
     match observed {
-        Observed::Refused(refusal) => ObservedWords {
+        Err(refusal) => ObservedWords {
             refusal: refusal::number(refusal),
             observation: ObservationWords {
                 sid: 0,
@@ -267,37 +266,37 @@ pub fn observed_words(observed: Observed) -> ObservedWords
                 lock: 0,
             },
         },
-        Observed::Read(observation) => ObservedWords {
+        Ok(observation) => ObservedWords {
             refusal: 0,
             observation: observation_words(observation),
         },
     }
 }
 
-pub fn written_words(written: Written) -> WrittenWords
+pub fn written_words(written: Result<usize, Refusal>) -> WrittenWords
     ensures { result ≡ written_words written }
 {
     match written {
-        Written::Refused(refusal) => WrittenWords {
+        Err(refusal) => WrittenWords {
             refusal: refusal::number(refusal),
             length: 0,
         },
-        Written::Length(length) => WrittenWords {
+        Ok(length) => WrittenWords {
             refusal: 0,
             length: length as u64,
         },
     }
 }
 
-pub fn listed_words(breaks: Breaks) -> ListedWords
+pub fn listed_words(breaks: Result<usize, Refusal>) -> ListedWords
     ensures { result ≡ listed_words breaks }
 {
     match breaks {
-        Breaks::Refused(refusal) => ListedWords {
+        Err(refusal) => ListedWords {
             refusal: refusal::number(refusal),
             count: 0,
         },
-        Breaks::Listed(count) => ListedWords {
+        Ok(count) => ListedWords {
             refusal: 0,
             count: count as u64,
         },
@@ -316,17 +315,17 @@ fn found_of(refusal: u64, kind: u64, position: usize, length: usize, gap: usize)
     }
 }
 
-pub fn found_words(next: Next) -> FoundWords
+pub fn found_words(next: Result<Next, Refusal>) -> FoundWords
     ensures { result ≡ found_words next }
 {
     match next {
-        Next::Refused(refusal) => found_of(refusal::number(refusal), 0, 0, 0, 0),
-        Next::Message {
+        Err(refusal) => found_of(refusal::number(refusal), 0, 0, 0, 0),
+        Ok(Next::Message {
             position,
             length,
             gap,
-        } => found_of(0, 1, position, length, gap),
-        Next::End { gap } => found_of(0, 2, 0, 0, gap),
+        }) => found_of(0, 1, position, length, gap),
+        Ok(Next::End { gap }) => found_of(0, 2, 0, 0, gap),
     }
 }
 
@@ -340,17 +339,17 @@ fn reason_of(refusal: u64, kind: u64, value: u64) -> ReasonWords
     }
 }
 
-pub fn reason_words(reason: Reason) -> ReasonWords
+pub fn reason_words(reason: Result<Reason, Refusal>) -> ReasonWords
     ensures { result ≡ reason_words reason }
 {
     match reason {
-        Reason::Refused(refusal) => reason_of(refusal::number(refusal), 0, 0),
-        Reason::Inside(start) => reason_of(0, 1, start as u64),
-        Reason::Given(length) => reason_of(0, 2, length as u64),
-        Reason::Sync(byte) => reason_of(0, 3, byte as u64),
-        Reason::CutUnknown => reason_of(0, 4, 0),
-        Reason::CutShort(missing) => reason_of(0, 5, missing as u64),
-        Reason::Checksum(residue) => reason_of(0, 6, residue as u64),
+        Err(refusal) => reason_of(refusal::number(refusal), 0, 0),
+        Ok(Reason::Inside(start)) => reason_of(0, 1, start as u64),
+        Ok(Reason::Given(length)) => reason_of(0, 2, length as u64),
+        Ok(Reason::Sync(byte)) => reason_of(0, 3, byte as u64),
+        Ok(Reason::CutUnknown) => reason_of(0, 4, 0),
+        Ok(Reason::CutShort(missing)) => reason_of(0, 5, missing as u64),
+        Ok(Reason::Checksum(residue)) => reason_of(0, 6, residue as u64),
     }
 }
 
@@ -372,10 +371,10 @@ pub fn answer_words(reply: stream::Reply, offered: u64) -> AnswerWords
 {
     let answer = reply.answer;
     match answer {
-        Answer::Refused(refusal) => answer_of(refusal::number(refusal), 0, 0, 0, 0),
-        Answer::NeedsMore => answer_of(0, 0, 0, 0, offered),
-        Answer::Message { length, gap, taken } => answer_of(0, 1, length, gap, taken),
-        Answer::End { gap } => answer_of(0, 2, 0, gap, 0),
+        Err(refusal) => answer_of(refusal::number(refusal), 0, 0, 0, 0),
+        Ok(Answer::NeedsMore) => answer_of(0, 0, 0, 0, offered),
+        Ok(Answer::Message { length, gap, taken }) => answer_of(0, 1, length, gap, taken),
+        Ok(Answer::End { gap }) => answer_of(0, 2, 0, gap, 0),
     }
 }
 
@@ -420,11 +419,11 @@ fn record_of(refusal: u64, r: Record) -> RecordWords
     }
 }
 
-pub fn record_words(reading: novatel::Reading) -> RecordWords
+pub fn record_words(reading: Result<Record, Refusal>) -> RecordWords
     ensures { result ≡ record_words reading }
 {
     match reading {
-        novatel::Reading::Refused(refusal) => record_of(
+        Err(refusal) => record_of(
             refusal::number(refusal),
             Record {
                 status: 0,
@@ -439,15 +438,15 @@ pub fn record_words(reading: novatel::Reading) -> RecordWords
                 reserved: 0,
             },
         ),
-        novatel::Reading::Read(r) => record_of(0, r),
+        Ok(r) => record_of(0, r),
     }
 }
 
-pub fn adr_words(correction: Correction) -> AdrWords
+pub fn adr_words(correction: Result<Corrected, Refusal>) -> AdrWords
     ensures { result ≡ adr_words correction }
 {
     match correction {
-        Correction::Refused(refusal) => {
+        Err(refusal) => {
             let refusal = refusal::number(refusal);
             AdrWords {
                 refusal,
@@ -455,7 +454,7 @@ pub fn adr_words(correction: Correction) -> AdrWords
                 adr: 0,
             }
         }
-        Correction::Corrected { rolls, adr } => AdrWords {
+        Ok(Corrected { rolls, adr }) => AdrWords {
             refusal: 0,
             rolls,
             adr,

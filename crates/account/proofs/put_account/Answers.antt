@@ -1,4 +1,5 @@
 -- `account::put_account` meets its contract: before each turn the lines up to its position, which no message covers, are put. Assumes nothing.
+use Rattle.std.specs.Prelude.{Result}
 use Prim.Native.Nat.{ℕ, ◌-◌}
 use mathlib.Core.Path.{◌≡◌, ap, ◌∙◌}
 use mathlib.Core.List.{List}
@@ -11,9 +12,10 @@ use Rattle.reason.specs.Reason.{here_of, reason_of}
 use Rattle.account.proofs.Ahead.{ahead_start, settled}
 use Rattle.account.proofs.Lines.{lines_none, lines_settled}
 use Rattle.account.proofs.put_account.Goals as goal
+use Rattle.refusal.specs.declared.Refusal.{Refusal}
 
 -- as the code has it: the reason of `&recording[position..]`
-whole : (s : List ℕ) (at : ℕ) (r : Reason) → r ≡ here_of (take (length s - at) (drop at s)) → r ≡ here_of (drop at s)
+whole : (s : List ℕ) (at : ℕ) (r : Result Reason Refusal) → r ≡ here_of (take (length s - at) (drop at s)) → r ≡ here_of (drop at s)
 whole s at r e = e ∙ ap here_of (take_all (length s - at) (drop at s) (omega (arith, length-drop at s)))
 
 pub loop-position-init : goal.loop-position-init

@@ -10,9 +10,9 @@ put_listed-requires c =
     let a = c.args in
     let e = c.claimed_breaks.ensures in
     let m = a.message.now in
-    rw (sym e.answer ∙ c.in-Listed.is, sym e.list) at (list_holds m a.history.now a.list.now (claimed_head m))
+    rw (sym e.answer ∙ c.in-Ok.is, sym e.list) at (list_holds m a.history.now a.list.now (claimed_head m))
 
-pub returns-in-Refused : goal.returns-in-Refused
-returns-in-Refused c =
+pub returns-in-Err : goal.returns-in-Err
+returns-in-Err c =
     let e = c.claimed_breaks.ensures in
-    record { text = rw (sym e.answer ∙ c.in-Refused.is) (puts_none _ _); words = e.words; listed = e.list }
+    record { text = rw (sym e.answer ∙ c.in-Err.is) (puts_none _ _); words = e.words; listed = e.list }

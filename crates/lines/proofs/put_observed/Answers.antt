@@ -2,5 +2,5 @@
 use Rattle.text.proofs.PutLaws.{puts_none}
 use Rattle.lines.proofs.put_observed.Goals as goal
 
-pub returns-in-Refused : goal.returns-in-Refused
-returns-in-Refused c = rw c.in-Refused.is (puts_none _ _)
+pub returns-in-Err : goal.returns-in-Err
+returns-in-Err c = rw c.in-Err.is (puts_none _ _)

@@ -9,6 +9,6 @@ returns-in_default c = rw (sym c.claimed_header.ensures ∙ c.in_default.is) (pu
 
 pub returns : goal.returns
 returns c =
-    let told = sym c.claimed_header.ensures ∙ c.in-Read.is in
-    let head = c.front.ensures.2 ∙ puts_front c.put_head-width.ensures (head_width _ c.in-Read.header) in
+    let told = sym c.claimed_header.ensures ∙ c.in-Ok.is in
+    let head = c.front.ensures.2 ∙ puts_front c.put_head-width.ensures (head_width _ c.in-Ok.header) in
     rw (told, ← head) c.put_observations.ensures
