@@ -32,7 +32,7 @@ pub fn checksum(s: &[u8]) -> Summed
     let mut value: u8 = 0;
     let mut count = 0;
     for byte in s {
-        value = value ^ *byte;
+        value ^= *byte;
         count += 1;
     }
     Summed { value, count }
@@ -99,7 +99,7 @@ pub fn put_number(s: &mut [u8], x: u64)
     let mut y = x;
     for i in (0..s.len()).rev() {
         s[i] = (y % 256) as u8;
-        y = y / 256;
+        y /= 256;
     }
 }
 
@@ -128,6 +128,7 @@ pub fn signed_in(raw: u64, width: usize) -> i64
         return raw as i64;
     }
     let above = raw - half;
+    // -(k + 1) has the bits of k turned.
     if above < half {
         return !((half - 1 - above) as i64);
     }
