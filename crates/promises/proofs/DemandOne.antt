@@ -238,11 +238,7 @@ pub bytes_ask_nothing :
     × AsksNothing octets_contracts.signed_in.ended octets.signed_in.Reads.Asked
     × AsksNothing octets_contracts.raw_in.ended octets.raw_in.Reads.Asked
     × AsksNothing octets_contracts.holds_signed.ended octets.holds_signed.Reads.Asked
-    × AsksNothing octets_contracts.signed_of.ended octets.signed_of.Reads.Asked
-    × AsksNothing octets_contracts.raw_of.ended octets.raw_of.Reads.Asked
-    × AsksNothing octets_contracts.clear.ended octets.clear.Reads.Asked
-    × AsksNothing octets_contracts.copy.ended octets.copy.Reads.Asked
-bytes_ask_nothing = ((λ κs a. tt), (λ κs a. tt), (λ κs a. tt), (λ κs a. tt), (λ κs a. tt), (λ κs a. tt), (λ κs a. tt), (λ κs a. tt), (λ κs a. tt), (λ κs a. tt), (λ κs a. tt), (λ κs a. tt), (λ κs a. tt))
+bytes_ask_nothing = ((λ κs a. tt), (λ κs a. tt), (λ κs a. tt), (λ κs a. tt), (λ κs a. tt), (λ κs a. tt), (λ κs a. tt), (λ κs a. tt), (λ κs a. tt))
 
 pub fields_ask_nothing :
     AsksNothing bits_contracts.field.ended bits.field.Reads.Asked

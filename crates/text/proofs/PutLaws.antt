@@ -2,15 +2,15 @@
 use Prim.Native.Nat.{ℕ, suc, ◌+◌, ◌-◌, ◌≤◌, ◌<◌}
 use mathlib.Core.Path.{◌≡◌, refl, sym, ap, ap₂, ◌∙◌}
 use mathlib.Core.Bool.{Bool, true, false, cond}
-use mathlib.Core.List.{List, [], ◌∷◌, ◌++◌, append-nil}
+use mathlib.Core.List.{List, [], ◌∷◌, ◌++◌}
 use native.Mathlib.Omega.{arith}
 use native.Mathlib.Numerals.{add-one}
 use native.Mathlib.Nat.{add-zero}
 use borrow.Author.Tests.{lt-ltb, le-ltb, ltb-true, ltb-false}
 use lib.Dec.{ltb}
 use lib.ListN.{length, set, take, drop, length-set, length-append, length-drop, take-append-drop}
-use lib.Seq.{set_out, set_at, append_snoc, take-nil, take_all, take_at, drop-length, length-take-le}
-use Rattle.octets.specs.Parts.{part, over}
+use lib.Seq.{set_out, set_at, append_snoc, take-nil, take_all, take_at, length-take-le}
+use Rattle.octets.specs.Parts.{over}
 use Rattle.text.specs.Put.{behind, written, after, Puts}
 
 -- the buffer keeps its length
@@ -108,25 +108,16 @@ puts_placed out w t at k l h e =
       bytes = ap₂ (λ r j. take at out ++ (r ++ drop j (drop at out))) e (sym l) ∙ ap (λ r. take at out ++ over r (drop at out)) (sym o) ∙ sym (written_over out at t (omega arith));
     }
 
--- a text copied there whole
-pub copied : (out w t : List ℕ) (at k : ℕ) → length t ≡ k → at + k ≤ length out → w ≡ over (take (length (part at k out)) t) (part at k out) → w ≡ t
-copied out w t at k l h e =
-    let p = part at k out in
-    let n : length p ≡ length t = length-take-le k (drop at out) (omega (arith, length-drop at out)) ∙ sym l in
-    let q : drop (length t) p ≡ [] = ap (λ j. drop j p) (sym n) ∙ drop-length p in
-    e ∙ ap (λ r. over r p) (take_all (length p) t (omega (arith, n))) ∙ ap (λ r. t ++ r) q ∙ append-nil t
-
 -- and as much of a text as there is room for
 pub puts_cut : (out w t : List ℕ) (at : ℕ) → at ≤ length out → length out ≤ at + length t
-    → w ≡ over (take (length (part at (length out - at) out)) t) (part at (length out - at) out) → Puts out at t (length out) (take at out ++ (w ++ drop (length out - at) (drop at out)))
+    → w ≡ take (length out - at) t → Puts out at t (length out) (take at out ++ (w ++ drop (length out - at) (drop at out)))
 puts_cut out w t at h k e =
     let rest = drop at out in
     let l : length rest ≡ length out - at = length-drop at out in
-    let p : part at (length out - at) out ≡ rest = take_all (length out - at) rest (omega (arith, l)) in
-    let q : drop (length out - at) rest ≡ [] = ap (λ j. drop j rest) (sym l) ∙ drop-length rest in
+    let n : length (take (length rest) t) ≡ length out - at = length-take-le (length rest) t (omega (arith, l)) ∙ l in
     record {
       next = sym (after_cut (length out) at t h k);
-      bytes = ap₂ (λ r u. take at out ++ (r ++ u)) (e ∙ ap (λ r. over (take (length r) t) r) p) q ∙ ap (λ r. take at out ++ r) (append-nil (over (take (length rest) t) rest)) ∙ sym (written_over out at t h);
+      bytes = ap₂ (λ r j. take at out ++ (r ++ drop j rest)) (e ∙ ap (λ j. take j t) (sym l)) (sym n) ∙ sym (written_over out at t h);
     }
 
 -- put at the front of a buffer with room for it, a text is what the buffer begins with

@@ -30,10 +30,10 @@ pub fn put_all(out: &mut [u8], at: usize, text: &[u8]) -> usize
     if at < room {
         if text.len() <= room - at {
             let end = at + text.len();
-            octets::copy(text, &mut out[at..end]);
+            out[at..end].copy_from_slice(text);
             return end;
         }
-        octets::copy(text, &mut out[at..]);
+        out[at..].copy_from_slice(&text[..room - at]);
         return room;
     }
     at

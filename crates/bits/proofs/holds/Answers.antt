@@ -1,5 +1,5 @@
 -- `bits::holds` meets its contract: 64 bits hold every value. Assumes nothing.
-use Rattle.std.proofs.Common.{◌^◌, sym, ltb}
+use Rattle.std.proofs.Common.{◌^◌, sym}
 use native.Mathlib.Nat.{lt_of_lt_of_le}
 use lib.Pow.{pow_mono}
 use borrow.Author.Tests.{lt-ltb}
