@@ -40,7 +40,7 @@ const SYSTEM: Field = Field { at: 16, width: 3 };
 const SIGNAL: Field = Field { at: 21, width: 5 };
 
 // The fields of a record: Doppler in 1/256 Hz, range in 1/128 m, ADR in 1/256 cycle, the deviations' codes, lock in 1/32 s, C/N0 in dB-Hz.
-#[derive(Clone, Copy)]
+#[derive(Clone, Copy, Debug, PartialEq, Eq)]
 pub struct Record {
     pub status: u64,
     pub doppler: i64,
@@ -79,8 +79,7 @@ const RANGE_DEVIATIONS: [u64; 16] = [
 pub fn deviation_of_range(code: u64) -> u64
     ensures { result ≡ range_deviation code }
 {
-    let at = (code % 16) as usize;
-    RANGE_DEVIATIONS[at]
+    RANGE_DEVIATIONS[(code % 16) as usize]
 }
 
 // The deviation of the ADR, in 1/512 cycle.
