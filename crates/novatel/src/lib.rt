@@ -2,7 +2,7 @@
 // Numbers are whole and in the log's own steps. Every public function takes all inputs; what each answers is a definition of specs/.
 #![tactic(auto)]
 
-ghost use Rattle.std.specs.Prelude.{◌≡◌, ◌&&◌, ◌+◌, ◌*◌, ◌<◌, ◌≤◌, pos, neg_ℤ, length};
+ghost use Rattle.std.specs.Prelude.{◌≡◌, ◌+◌, ◌*◌, ◌/◌, ◌<◌, ◌≤◌, pos, length};
 ghost use Rattle.std.specs.Int.Signed.{mag};
 ghost use Rattle.novatel.specs.Record.{record_of, record_bytes, fits};
 ghost use Rattle.novatel.specs.Deviations.{range_deviation, adr_deviation};
@@ -111,50 +111,29 @@ fn in_cycles(range: u64) -> Cycles
     }
 }
 
-fn above(k: u64) -> i64
-    requires { k < 1024 }
-    ensures { (result ≡ pos k) × (mag result < 1024) }
-{
-    k as i64
-}
-
-fn below(k: u64) -> i64
-    requires { k < 1024 }
-    ensures { (result ≡ neg_ℤ (pos k)) × (mag result < 1024) }
-{
-    0 - (k as i64)
-}
-
 // The whole number nearest to an amount of 1/256 cycle over 2^23 cycles, halves up.
-fn rounded(amount: u64) -> u64
+fn rounded(amount: u64) -> i64
     requires { amount < 1108101562368 }
-    ensures { (result * 2147483648 ≤ amount + 1073741824) × (amount + 1073741824 < result * 2147483648 + 2147483648) × (result < 1024) }
+    ensures { (result ≡ pos ((amount + 1073741824) / 2147483648)) × (mag result < 1024) }
 {
-    (amount + 1073741824) / 2147483648
+    ((amount + 1073741824) / 2147483648) as i64
 }
 
 // The rest decides only where the sum is negative: it then lies between two whole numbers, and the one nearer to zero is rounded.
-#[tactic(auto, using(crate::proofs::RollSteps::behind_met))]
 fn rolls_of(range: u64, adr: i64) -> i64
     requires { (range < 68719476736) × (mag adr < 2147483648) }
     ensures { (result ≡ rolls_of range adr) × (mag result < 1024) }
 {
-    let raw = octets::raw_in(adr, 32);
-    let cycles = in_cycles(range);
-    let whole = cycles.whole;
-    let rest = cycles.rest;
-    if raw < 2147483648 {
-        return above(rounded(whole + raw));
+    let Cycles { whole, rest } = in_cycles(range);
+    let sum = whole as i64 + adr;
+    if 0 <= sum {
+        return rounded(sum as u64);
     }
-    let sum = whole + raw;
-    if 4294967296 <= sum {
-        return above(rounded(sum - 4294967296));
-    }
-    let short = 4294967296 - sum;
+    let short = sum.unsigned_abs();
     if rest == 0 {
-        return below(rounded(short));
+        return -rounded(short);
     }
-    below(rounded(short - 1))
+    -rounded(short - 1)
 }
 
 fn less_rolls(range: u64, adr: i64) -> Correction
