@@ -2,12 +2,12 @@
 // Numbers are whole and in the log's own steps. Every public function takes all inputs; what each answers is a definition of specs/.
 #![tactic(auto)]
 
-ghost use Rattle.std.specs.Prelude.{◌≡◌, ◌+◌, ◌*◌, ◌/◌, ◌<◌, ◌≤◌, pos, length};
+ghost use Rattle.std.specs.Prelude.{◌≡◌, ◌+◌, ◌*◌, ◌<◌, ◌≤◌, pos, length};
 ghost use Rattle.std.specs.Int.Signed.{mag};
 ghost use Rattle.novatel.specs.Record.{record_of, record_bytes, fits};
 ghost use Rattle.novatel.specs.Deviations.{range_deviation, adr_deviation};
 ghost use Rattle.novatel.specs.Entries.{reading_of, writing_of, writing_bytes, correction_of};
-ghost use Rattle.novatel.specs.Rolls.{rolls_of, corrected_of};
+ghost use Rattle.novatel.specs.Rolls.{nearest, rolls_of, corrected_of};
 
 use bits::Field;
 use refusal::{Refusal, Written};
@@ -114,12 +114,13 @@ fn in_cycles(range: u64) -> Cycles
 // The whole number nearest to an amount of 1/256 cycle over 2^23 cycles, halves up.
 fn rounded(amount: u64) -> i64
     requires { amount < 1108101562368 }
-    ensures { (result ≡ pos ((amount + 1073741824) / 2147483648)) × (mag result < 1024) }
+    ensures { (result ≡ nearest (pos amount) 2147483648) × (mag result < 1024) }
 {
     ((amount + 1073741824) / 2147483648) as i64
 }
 
 // The rest decides only where the sum is negative: it then lies between two whole numbers, and the one nearer to zero is rounded.
+#[tactic(auto, using(crate::proofs::RollSteps::behind_met))]
 fn rolls_of(range: u64, adr: i64) -> i64
     requires { (range < 68719476736) × (mag adr < 2147483648) }
     ensures { (result ≡ rolls_of range adr) × (mag result < 1024) }

@@ -5,11 +5,12 @@ use mathlib.Core.Path.{◌≡◌, refl, sym, ap, ap₂, ◌∙◌, subst}
 use mathlib.Core.Bool.{Bool, true, false, cond}
 use mathlib.Core.List.{List}
 use native.Mathlib.Omega.{arith}
-use lib.Dec.{eqb, ltb}
+use lib.Dec.{eqb}
 use lib.IntN.{ℤ, pos, negsuc, neg_ℤ, ◌+ℤ◌, ◌-ℤ◌, ◌*ℤ◌}
 use lib.ListN.{length, take, drop}
 use lib.Seq.{take_at}
-use borrow.Author.Tests.{eq-eqb, le-leb, ltb-true, ltb-false}
+use borrow.Author.Differences.{ints}
+use borrow.Author.Tests.{eq-eqb, le-leb}
 use Rattle.octets.specs.Numbers.{Bytes}
 use Rattle.octets.specs.Parts.{over}
 use Rattle.bits.specs.Joined.{joined}
@@ -22,7 +23,6 @@ use Rattle.novatel.specs.declared.Correction.TheVariants.{Refused as NotCorrecte
 use Rattle.novatel.specs.Record.{record_of, record_bytes, fields_of, fits}
 use Rattle.novatel.specs.Entries.{reading_of, writing_of, writing_bytes, says_gps, correction_in, correction_of}
 use Rattle.novatel.specs.Rolls.{numerator, denominator, rolls_of, corrected_of}
-use Rattle.novatel.proofs.RollSteps.{more, less}
 use Rattle.promises.specs.Record.{Holds, NearestAway, wavelength, upper, lower}
 use Rattle.promises.proofs.NearestAway.{nearest_is, nearest_only}
 use Rattle.promises.proofs.RecordBack.{holding, read_holds, read_written, written_read}
@@ -85,17 +85,7 @@ corrected_exactly s k c e = go (eqb (length s) 24) (says_gps (record_of s).statu
 
 -- ---- the request's fraction is 003's, with 128 taken out above and below
 spread : (x y : ℕ) → pos 128 *ℤ (pos x +ℤ neg_ℤ (pos y)) ≡ pos (128 * x) +ℤ neg_ℤ (pos (128 * y))
-spread x y = go (ltb x y) refl
-  where
-    go : (t : Bool) → ltb x y ≡ t → pos 128 *ℤ (pos x +ℤ neg_ℤ (pos y)) ≡ pos (128 * x) +ℤ neg_ℤ (pos (128 * y))
-    go true h =
-        let l = ltb-true x y h in
-        let m : 128 * suc (y - suc x) ≡ suc (128 * y - suc (128 * x)) = omega arith in
-        ap (λ z. pos 128 *ℤ z) (less x y l) ∙ ap (λ n. neg_ℤ (pos n)) m ∙ sym (less (128 * x) (128 * y) (omega arith))
-    go false h =
-        let l = ltb-false x y h in
-        let m : 128 * (x - y) ≡ 128 * x - 128 * y = omega arith in
-        ap (λ z. pos 128 *ℤ z) (more x y l) ∙ ap pos m ∙ sym (more (128 * x) (128 * y) (omega arith))
+spread x y = omega (arith, ints)
 
 pub as_published : (p : ℕ) (a : ℤ) → (upper p a ≡ pos 128 *ℤ numerator p a) × (lower ≡ 128 * denominator)
 as_published p (pos n) = (ap pos (omega arith), refl)
