@@ -241,12 +241,13 @@ pub bytes_ask_nothing :
 bytes_ask_nothing = ((λ κs a. tt), (λ κs a. tt), (λ κs a. tt), (λ κs a. tt), (λ κs a. tt), (λ κs a. tt), (λ κs a. tt), (λ κs a. tt), (λ κs a. tt))
 
 pub fields_ask_nothing :
-    AsksNothing bits_contracts.field.ended bits.field.Reads.Asked
-    × AsksNothing bits_contracts.put_field.ended bits.put_field.Reads.Asked
-    × AsksNothing bits_contracts.signed_field.ended bits.signed_field.Reads.Asked
-    × AsksNothing bits_contracts.put_signed_field.ended bits.put_signed_field.Reads.Asked
-    × AsksNothing bits_contracts.holds.ended bits.holds.Reads.Asked
-fields_ask_nothing = ((λ κs a. tt), (λ κs a. tt), (λ κs a. tt), (λ κs a. tt), (λ κs a. tt))
+    AsksNothing bits_contracts.Field.read.ended bits.Field.read.Reads.Asked
+    × AsksNothing bits_contracts.Field.write.ended bits.Field.write.Reads.Asked
+    × AsksNothing bits_contracts.Field.read_signed.ended bits.Field.read_signed.Reads.Asked
+    × AsksNothing bits_contracts.Field.write_signed.ended bits.Field.write_signed.Reads.Asked
+    × AsksNothing bits_contracts.Field.holds.ended bits.Field.holds.Reads.Asked
+    × AsksNothing bits_contracts.Field.holds_signed.ended bits.Field.holds_signed.Reads.Asked
+fields_ask_nothing = ((λ κs a. tt), (λ κs a. tt), (λ κs a. tt), (λ κs a. tt), (λ κs a. tt), (λ κs a. tt))
 
 pub units_ask_nothing :
     AsksNothing units_contracts.LockCount.from_count.ended units.LockCount.from_count.Reads.Asked
