@@ -166,10 +166,11 @@ fn record_of(bytes: &[u8]) -> Record
 pub fn read_record(bytes: &[u8]) -> Result<Record, Refusal>
     ensures { result ≡ reading_of bytes.now }
 {
-    if bytes.len() != 24 {
-        return Err(Refusal::OtherLength);
+    if bytes.len() == 24 {
+        Ok(record_of(bytes))
+    } else {
+        Err(Refusal::OtherLength)
     }
-    Ok(record_of(bytes))
 }
 
 // The rolls of a record's ADR, and the ADR less these (13, then 22).
