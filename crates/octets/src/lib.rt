@@ -105,7 +105,7 @@ pub fn put_number(s: &mut [u8], x: u64)
 
 // ---- two's complement
 
-// z itself where it is not negative, and k for -(k + 1).
+// z itself where it is not negative, and k for -(k + 1), of which `unsigned_abs` makes k + 1.
 fn magnitude(z: i64) -> u64
     ensures { result ≡ mag z }
 {
