@@ -28,9 +28,9 @@ impl Piece {
     fn write(self, byte: u8, value: u64) -> u8
         ensures { result ≡ paste self.low self.count value byte }
     {
-        let old = self.read(byte) << self.low;
-        let new = value % (1 << self.count) << self.low;
-        (byte as u64 - old + new) as u8
+        let above = byte as u64 >> self.low >> self.count << self.count;
+        let below = byte as u64 % (1 << self.low);
+        (((above + value % (1 << self.count)) << self.low) + below) as u8
     }
 }
 
