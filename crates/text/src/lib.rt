@@ -16,15 +16,6 @@ pub struct Text<'a> {
     at: usize,
 }
 
-// A decimal number in parts: a sign, a whole number and, behind the point, so many digits of another one.
-#[derive(Clone, Copy)]
-struct Pointed {
-    negative: bool,
-    whole: u64,
-    places: usize,
-    part: u64,
-}
-
 // ---- digits
 
 fn digit(d: u64) -> u8
@@ -163,9 +154,10 @@ impl<'a> Text<'a> {
     pub fn put(&mut self, byte: u8)
         ensures { self.new ≡ appended (byte ∷ []) self.old }
     {
-        if self.at < self.buffer.len() {
-            self.buffer[self.at] = byte;
-            self.at += 1;
+        let at = self.at;
+        if at < self.buffer.len() {
+            self.buffer[at] = byte;
+            self.at = at + 1;
         }
     }
 
@@ -204,8 +196,9 @@ impl<'a> Text<'a> {
         for _ in room..width {
             rest = rest / base;
         }
-        let end = self.at + width.min(room);
-        spell(&mut self.buffer[self.at..end], rest, base);
+        let at = self.at;
+        let end = at + width.min(room);
+        spell(&mut self.buffer[at..end], rest, base);
         self.at = end;
     }
 
@@ -231,8 +224,9 @@ impl<'a> Text<'a> {
         requires { self.old.at < length self.old.buffer.now }
         ensures { (self.new.at ≡ self.old.at + 1) × (self.new ≡ appended (byte ∷ []) self.old) }
     {
-        self.buffer[self.at] = byte;
-        self.at += 1;
+        let at = self.at;
+        self.buffer[at] = byte;
+        self.at = at + 1;
     }
 
     // All eight are one store.
@@ -240,9 +234,9 @@ impl<'a> Text<'a> {
         requires { (self.old.at + 8 ≤ length self.old.buffer.now) × (n < 100000000) }
         ensures { (self.new.at ≡ self.old.at + 8) × (self.new ≡ appended (digits 10 8 n) self.old) }
     {
-        let end = self.at + 8;
-        octets::put_number(&mut self.buffer[self.at..end], packed_digits(n));
-        self.at = end;
+        let at = self.at;
+        octets::put_number(&mut self.buffer[at..at + 8], packed_digits(n));
+        self.at = at + 8;
     }
 
     #[tactic(auto, using(crate::proofs::Split::pair_set))]
@@ -379,27 +373,22 @@ impl<'a> Text<'a> {
 
     // The callers divide, each by its own constant, which the machine does by multiplying.
     #[tactic(auto, using(crate::proofs::PutLaws::appended_twice, crate::proofs::PutLaws::appended_none))]
-    fn put_pointed(&mut self, number: Pointed)
-        ensures { self.new ≡ appended (pointed number.negative number.whole number.places number.part) self.old }
+    fn put_pointed(&mut self, negative: bool, whole: u64, places: usize, part: u64)
+        ensures { self.new ≡ appended (pointed negative whole places part) self.old }
     {
-        if number.negative {
+        if negative {
             self.put(b'-');
         }
-        self.put_decimal(number.whole);
+        self.put_decimal(whole);
         self.put(b'.');
-        self.put_digits(number.part, 10, number.places);
+        self.put_digits(part, 10, places);
     }
 
     // Whole micrometres as metres, with six decimals.
     pub fn put_metres(&mut self, micrometres: u64)
         ensures { self.new ≡ appended (metres micrometres) self.old }
     {
-        self.put_pointed(Pointed {
-            negative: false,
-            whole: micrometres / 1000000,
-            places: 6,
-            part: micrometres % 1000000,
-        });
+        self.put_pointed(false, micrometres / 1000000, 6, micrometres % 1000000);
     }
 
     // A rate in units of 1/10000 Hz as hertz, with four decimals.
@@ -412,12 +401,7 @@ impl<'a> Text<'a> {
         } else {
             rate as u32 as u64
         };
-        self.put_pointed(Pointed {
-            negative,
-            whole: size / 10000,
-            places: 4,
-            part: size % 10000,
-        });
+        self.put_pointed(negative, size / 10000, 4, size % 10000);
     }
 
     // A double of so many cycles, by its bits, with three decimals: or a word, where it is not finite, or so wide that it does not tell whole cycles.
@@ -434,11 +418,6 @@ impl<'a> Text<'a> {
             return;
         }
         let size = round_thousandths(bits, exponent);
-        self.put_pointed(Pointed {
-            negative: bits >= 0x8000_0000_0000_0000,
-            whole: size / 1000,
-            places: 3,
-            part: size % 1000,
-        });
+        self.put_pointed(bits >= 0x8000_0000_0000_0000, size / 1000, 3, size % 1000);
     }
 }
