@@ -4,7 +4,7 @@ use mathlib.Core.Path.{◌≡◌, refl, sym, ap, ap₂, ◌∙◌}
 use mathlib.Core.Bool.{Bool, true, false, cond}
 use mathlib.Core.List.{[], ◌∷◌, ◌++◌, append-nil, append_assoc}
 use native.Mathlib.Omega.{arith}
-use native.Mathlib.Nat.{zero-add, suc-add, pow-suc, mul_comm, mod-lt, mod-eq_of_lt, div-div-eq-div-mul}
+use native.Mathlib.Nat.{zero-add, suc-add, pow-suc, mul_comm, mod-lt, mod-eq_of_lt, div-div-eq-div-mul, div-lt_iff_lt-mul}
 use borrow.Author.Tests.{lt-ltb}
 use lib.Dec.{ltb}
 use lib.Arith.{mod-mul}
@@ -77,10 +77,16 @@ decimal_pairs n h l =
     decimal_split 2 n h (omega arith)
     ∙ ap (λ r. r ++ digits 10 2 (n % 100)) (decimal_split 2 (n / 100) (omega arith) (omega arith) ∙ ap (λ m. decimal m ++ digits 10 2 (n / 100 % 100)) (div-div-eq-div-mul n 100 100))
 
--- a number of just k + 1 digits
-pub decimal_exact : (k n : ℕ) → n < 10 ^ 20 → 10 ^ k ≤ n → n / 10 ^ k < 10 → decimal n ≡ digits 10 (suc k) n
+-- a number of just k + 1 digits, and of one
+pub needed_exact : (k n : ℕ) → n < 10 ^ 20 → 10 ^ k ≤ n → n < 10 * 10 ^ k → k + 1 ≡ needed 20 n
+needed_exact k n h l f = sym (needed_split k n h l ∙ ap (λ j. k + j) (needed_last 19 (n / 10 ^ k) ((div-lt_iff_lt-mul (ten_pos k)).1 f)))
+
+pub needed_one : (n : ℕ) → n ≡ 0 → 1 ≡ needed 20 n
+needed_one n z = sym (needed_last 19 n (omega arith))
+
+pub decimal_exact : (k n : ℕ) → n < 10 ^ 20 → 10 ^ k ≤ n → n < 10 * 10 ^ k → decimal n ≡ digits 10 (suc k) n
 decimal_exact k n h l f =
-    let e : needed 20 n ≡ suc k = needed_split k n h l ∙ ap (λ j. k + j) (needed_last 19 (n / 10 ^ k) f) ∙ omega arith in
+    let e : needed 20 n ≡ suc k = sym (needed_exact k n h l f) ∙ omega arith in
     ap (λ j. digits 10 j n) e
 
 -- of one digit

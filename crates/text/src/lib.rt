@@ -45,22 +45,15 @@ fn spell(out: &mut [u8], n: u64, base: u64)
     }
 }
 
-// How many decimal digits n needs: four at a time, then the last ones.
+// How many decimal digits n needs.
+#[tactic(auto, using(crate::proofs::Split::needed_one, crate::proofs::Split::needed_exact))]
 fn width_of(n: u64) -> usize
     ensures { (result ≡ needed 20 n) × (result ≤ 20) }
 {
-    let mut rest = n;
-    let mut width = 1;
-    while 10000 <= rest {
-        rest = rest / 10000;
-        width += 4;
+    if n == 0 {
+        return 1;
     }
-    match rest {
-        0..=9 => width,
-        10..=99 => width + 1,
-        100..=999 => width + 2,
-        _ => width + 3,
-    }
+    n.ilog10() as usize + 1
 }
 
 // Eight digits packed into 64 bits, the first in the highest byte. Two numbers of four digits, 32 bits apart, are divided by 100 at once, then four of two
@@ -184,6 +177,7 @@ impl<'a> Text<'a> {
     // ---- whole numbers
 
     // The last `width` digits of n. Of these the last ones go, where there is no room for all.
+    #[tactic(auto, using(crate::proofs::PutLaws::appended_past))]
     fn put_digits(&mut self, n: u64, base: u64, width: usize)
         requires { (0 < base) × (base ≤ 16) }
         ensures { self.new ≡ appended (digits base width n) self.old }

@@ -6,18 +6,9 @@ use lib.ListN.{drop, length-drop}
 use lib.Seq.{length-take-le}
 use Rattle.text.specs.Digits.{digits}
 use Rattle.text.specs.Put.{appended}
-use Rattle.text.proofs.PutLaws.{appended_whole, appended_past}
+use Rattle.text.proofs.PutLaws.{appended_whole}
 use Rattle.text.proofs.Spelling.{length_digits, digit_cut}
 use Rattle.text.proofs.Text.put_digits.Goals as goal
-
-pub returns-then-room-eq0 : goal.returns-then-room-eq0
-returns-then-room-eq0 c = appended_past _ _ (omega arith)
-
-pub loop-init : goal.loop-init
-loop-init c =
-    let a = c.args in
-    let z : a.width - (c.room-room.result - c.room-room.result) ≡ a.width = omega arith in
-    (omega arith, ap (λ k. appended (digits a.base k a.n) a.self.now) z)
 
 pub loop-preserved : goal.loop-preserved
 loop-preserved c =
