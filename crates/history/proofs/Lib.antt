@@ -1,4 +1,3 @@
-pub mod TwoFields
 pub mod Takes
 pub mod CallSteps
 pub mod Determined
