@@ -1,3 +1,4 @@
+pub mod Rows
 pub mod Takes
 pub mod CallSteps
 pub mod Determined

@@ -59,26 +59,16 @@ pub fn fresh(history: &mut [u64; WORDS], signal: u8)
     history[0] = signal as u64;
 }
 
-// What is kept in the three words from `at` on.
-fn last_of(history: &[u64], at: usize) -> Last
-    requires { at + 3 ≤ length history.now }
-    ensures { result ≡ last_from history.now at }
+// What is kept in the three words of a SID.
+fn last_of(row: &[u64]) -> Last
+    requires { 3 ≤ length row.now }
+    ensures { result ≡ last_from row.now 0 }
 {
     Last {
-        seen: history[at],
-        time: history[at + 1],
-        lock: history[at + 2],
+        seen: row[0],
+        time: row[1],
+        lock: row[2],
     }
-}
-
-// Three numbers in place of those from `at` on.
-fn put_three(words: &mut [u64], at: usize, first: u64, second: u64, third: u64)
-    requires { at + 3 ≤ length words.old }
-    ensures { words.new ≡ put at (first ∷ second ∷ third ∷ []) words.old }
-{
-    words[at] = first;
-    words[at + 1] = second;
-    words[at + 2] = third;
 }
 
 // ---- one appearance
@@ -108,12 +98,14 @@ fn appear(history: &mut [u64], list: &mut [u64], count: usize, appearance: Appea
     let time = appearance.time as u64;
     let lock = appearance.lock as u64;
     let at = 1 + 3 * sid as usize;
-    let last = last_of(history, at);
-    put_three(history, at, 1, time, lock);
+    let row = &mut history[at..at + 3];
+    let last = last_of(row);
+    row.copy_from_slice(&[1, time, lock]);
     let Some(which) = said_of(last, time, lock) else {
         return count;
     };
-    put_three(list, 3 * count, sid as u64, time, which.number());
+    let end = 3 * count;
+    list[end..end + 3].copy_from_slice(&[sid as u64, time, which.number()]);
     count + 1
 }
 
