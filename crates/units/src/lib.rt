@@ -5,11 +5,11 @@ ghost use Rattle.std.specs.Prelude.{◌≡◌};
 ghost use Rattle.units.specs.Units.{lock_of, millis_of, count_in, millis_in, lock_millis, sum_of};
 
 // LOCKTIME as a message carries it. The field is private, so that a count is never taken for a time by accident.
-#[derive(Clone, Copy)]
+#[derive(Clone, Copy, Debug, PartialEq, Eq)]
 pub struct LockCount(u32);
 
 // Milliseconds, of the GNSS week or since lock: a lock count of 32 bits takes 33.
-#[derive(Clone, Copy)]
+#[derive(Clone, Copy, Debug, PartialEq, Eq)]
 pub struct Millis(u64);
 
 impl LockCount {
