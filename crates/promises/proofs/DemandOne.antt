@@ -238,19 +238,16 @@ pub bytes_ask_nothing :
     × AsksNothing octets_contracts.signed_in.ended octets.signed_in.Reads.Asked
     × AsksNothing octets_contracts.raw_in.ended octets.raw_in.Reads.Asked
     × AsksNothing octets_contracts.holds_signed.ended octets.holds_signed.Reads.Asked
-    × AsksNothing octets_contracts.signed_of.ended octets.signed_of.Reads.Asked
-    × AsksNothing octets_contracts.raw_of.ended octets.raw_of.Reads.Asked
-    × AsksNothing octets_contracts.clear.ended octets.clear.Reads.Asked
-    × AsksNothing octets_contracts.copy.ended octets.copy.Reads.Asked
-bytes_ask_nothing = ((λ κs a. tt), (λ κs a. tt), (λ κs a. tt), (λ κs a. tt), (λ κs a. tt), (λ κs a. tt), (λ κs a. tt), (λ κs a. tt), (λ κs a. tt), (λ κs a. tt), (λ κs a. tt), (λ κs a. tt), (λ κs a. tt))
+bytes_ask_nothing = ((λ κs a. tt), (λ κs a. tt), (λ κs a. tt), (λ κs a. tt), (λ κs a. tt), (λ κs a. tt), (λ κs a. tt), (λ κs a. tt), (λ κs a. tt))
 
 pub fields_ask_nothing :
-    AsksNothing bits_contracts.field.ended bits.field.Reads.Asked
-    × AsksNothing bits_contracts.put_field.ended bits.put_field.Reads.Asked
-    × AsksNothing bits_contracts.signed_field.ended bits.signed_field.Reads.Asked
-    × AsksNothing bits_contracts.put_signed_field.ended bits.put_signed_field.Reads.Asked
-    × AsksNothing bits_contracts.holds.ended bits.holds.Reads.Asked
-fields_ask_nothing = ((λ κs a. tt), (λ κs a. tt), (λ κs a. tt), (λ κs a. tt), (λ κs a. tt))
+    AsksNothing bits_contracts.Field.read.ended bits.Field.read.Reads.Asked
+    × AsksNothing bits_contracts.Field.write.ended bits.Field.write.Reads.Asked
+    × AsksNothing bits_contracts.Field.read_signed.ended bits.Field.read_signed.Reads.Asked
+    × AsksNothing bits_contracts.Field.write_signed.ended bits.Field.write_signed.Reads.Asked
+    × AsksNothing bits_contracts.Field.holds.ended bits.Field.holds.Reads.Asked
+    × AsksNothing bits_contracts.Field.holds_signed.ended bits.Field.holds_signed.Reads.Asked
+fields_ask_nothing = ((λ κs a. tt), (λ κs a. tt), (λ κs a. tt), (λ κs a. tt), (λ κs a. tt), (λ κs a. tt))
 
 pub units_ask_nothing :
     AsksNothing units_contracts.LockCount.from_count.ended units.LockCount.from_count.Reads.Asked
@@ -290,18 +287,23 @@ words_ask_nothing =
     ((λ κs a. tt), (λ κs a. tt), (λ κs a. tt), (λ κs a. tt), (λ κs a. tt), (λ κs a. tt), (λ κs a. tt), (λ κs a. tt), (λ κs a. tt), (λ κs a. tt), (λ κs a. tt), (λ κs a. tt), (λ κs a. tt), (λ κs a. tt))
 
 pub text_asks_nothing :
-    AsksNothing text_contracts.put.ended text.put.Reads.Asked
-    × AsksNothing text_contracts.put_all.ended text.put_all.Reads.Asked
+    AsksNothing text_contracts.Text.new.ended text.Text.new.Reads.Asked
+    × AsksNothing text_contracts.Text.behind.ended text.Text.behind.Reads.Asked
+    × AsksNothing text_contracts.Text.at.ended text.Text.at.Reads.Asked
+    × AsksNothing text_contracts.Text.written.ended text.Text.written.Reads.Asked
+    × AsksNothing text_contracts.Text.clear.ended text.Text.clear.Reads.Asked
+    × AsksNothing text_contracts.Text.put.ended text.Text.put.Reads.Asked
+    × AsksNothing text_contracts.Text.put_all.ended text.Text.put_all.Reads.Asked
     × AsksNothing text_contracts.front.ended text.front.Reads.Asked
-    × AsksNothing text_contracts.put_decimal.ended text.put_decimal.Reads.Asked
-    × AsksNothing text_contracts.put_hex.ended text.put_hex.Reads.Asked
-    × AsksNothing text_contracts.put_number.ended text.put_number.Reads.Asked
-    × AsksNothing text_contracts.put_long.ended text.put_long.Reads.Asked
-    × AsksNothing text_contracts.put_short.ended text.put_short.Reads.Asked
-    × AsksNothing text_contracts.put_count.ended text.put_count.Reads.Asked
-    × AsksNothing text_contracts.put_metres.ended text.put_metres.Reads.Asked
-    × AsksNothing text_contracts.put_hertz.ended text.put_hertz.Reads.Asked
-    × AsksNothing text_contracts.put_cycles.ended text.put_cycles.Reads.Asked
+    × AsksNothing text_contracts.Text.put_decimal.ended text.Text.put_decimal.Reads.Asked
+    × AsksNothing text_contracts.Text.put_hex.ended text.Text.put_hex.Reads.Asked
+    × AsksNothing text_contracts.Text.put_number.ended text.Text.put_number.Reads.Asked
+    × AsksNothing text_contracts.Text.put_long.ended text.Text.put_long.Reads.Asked
+    × AsksNothing text_contracts.Text.put_short.ended text.Text.put_short.Reads.Asked
+    × AsksNothing text_contracts.Text.put_count.ended text.Text.put_count.Reads.Asked
+    × AsksNothing text_contracts.Text.put_metres.ended text.Text.put_metres.Reads.Asked
+    × AsksNothing text_contracts.Text.put_hertz.ended text.Text.put_hertz.Reads.Asked
+    × AsksNothing text_contracts.Text.put_cycles.ended text.Text.put_cycles.Reads.Asked
     × AsksNothing lines_contracts.put_line.ended lines.put_line.Reads.Asked
     × AsksNothing lines_contracts.put_end.ended lines.put_end.Reads.Asked
     × AsksNothing lines_contracts.put_rows.ended lines.put_rows.Reads.Asked
@@ -309,7 +311,7 @@ pub text_asks_nothing :
     × AsksNothing argument_contracts.small_number.ended argument.small_number.Reads.Asked
     × AsksNothing account_contracts.put_report.ended account.put_report.Reads.Asked
 text_asks_nothing =
-    ((λ κs a. tt), (λ κs a. tt), (λ κs a. tt), (λ κs a. tt), (λ κs a. tt), (λ κs a. tt), (λ κs a. tt), (λ κs a. tt), (λ κs a. tt), (λ κs a. tt), (λ κs a. tt), (λ κs a. tt), (λ κs a. tt), (λ κs a. tt), (λ κs a. tt), (λ κs a. tt), (λ κs a. tt), (λ κs a. tt))
+    ((λ κs a. tt), (λ κs a. tt), (λ κs a. tt), (λ κs a. tt), (λ κs a. tt), (λ κs a. tt), (λ κs a. tt), (λ κs a. tt), (λ κs a. tt), (λ κs a. tt), (λ κs a. tt), (λ κs a. tt), (λ κs a. tt), (λ κs a. tt), (λ κs a. tt), (λ κs a. tt), (λ κs a. tt), (λ κs a. tt), (λ κs a. tt), (λ κs a. tt), (λ κs a. tt), (λ κs a. tt), (λ κs a. tt))
 
 -- and of the two over a lent state: their `requires` is empty in every model of the logic
 pub cs_feed_asks_nothing : (w : World) (κs : Lfts 4) (a : Args board_contracts.cs_feed.signature κs) → (board_contracts.cs_feed.clauses w.𝓛 w.𝓜.mem w.𝓡.run κs a).requires tt ≡ emp w.𝓤

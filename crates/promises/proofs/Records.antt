@@ -1,16 +1,17 @@
 -- E4: a record that is read is written as the same bytes, and one that is written is read as the same record; the rolls of an ADR are the whole number
 -- nearest to the exact fraction, halves away from zero, and no other is. Assumes nothing.
 use Rattle.std.specs.Prelude.{Ok, Err, Result}
-use Prim.Native.Nat.{ℕ, suc, ◌-◌, ◌*◌, ◌^◌, ◌≤◌}
-use mathlib.Core.Path.{◌≡◌, refl, sym, ap, ap₂, ◌∙◌, subst}
+use Prim.Native.Nat.{ℕ, ◌*◌, ◌^◌, ◌≤◌}
+use mathlib.Core.Path.{◌≡◌, refl, sym, ap, ◌∙◌, subst}
 use mathlib.Core.Bool.{Bool, true, false, cond}
 use mathlib.Core.List.{List}
 use native.Mathlib.Omega.{arith}
-use lib.Dec.{eqb, ltb}
-use lib.IntN.{ℤ, pos, negsuc, neg_ℤ, ◌+ℤ◌, ◌-ℤ◌, ◌*ℤ◌}
+use lib.Dec.{eqb}
+use lib.IntN.{ℤ, pos, ◌-ℤ◌, ◌*ℤ◌}
 use lib.ListN.{length, take, drop}
 use lib.Seq.{take_at}
-use borrow.Author.Tests.{eq-eqb, le-leb, ltb-true, ltb-false}
+use borrow.Author.Differences.{ints}
+use borrow.Author.Tests.{eq-eqb, le-leb}
 use Rattle.octets.specs.Numbers.{Bytes}
 use Rattle.octets.specs.Parts.{over}
 use Rattle.bits.specs.Joined.{joined}
@@ -22,8 +23,7 @@ use Rattle.novatel.specs.declared.Record.{Record}
 use Rattle.novatel.specs.Record.{record_of, record_bytes, fields_of, fits}
 use Rattle.novatel.specs.Entries.{reading_of, writing_of, writing_bytes, says_gps, correction_in, correction_of}
 use Rattle.novatel.specs.Rolls.{numerator, denominator, rolls_of, corrected_of}
-use Rattle.novatel.proofs.RollSteps.{more, less}
-use Rattle.promises.specs.Record.{Holds, NearestAway, wavelength, upper, lower}
+use Rattle.promises.specs.Record.{Holds, NearestAway, upper, lower}
 use Rattle.promises.proofs.NearestAway.{nearest_is, nearest_only}
 use Rattle.promises.proofs.RecordBack.{holding, read_holds, read_written, written_read}
 
@@ -89,22 +89,5 @@ corrected_exactly s k c e = go (eqb (length s) 24) (says_gps (record_of s).statu
     go false u q = absurd (let z : ◌≡◌ {A = ℕ} 0 1 = cc in omega arith)
 
 -- ---- the request's fraction is 003's, with 128 taken out above and below
-spread : (x y : ℕ) → pos 128 *ℤ (pos x +ℤ neg_ℤ (pos y)) ≡ pos (128 * x) +ℤ neg_ℤ (pos (128 * y))
-spread x y = go (ltb x y) refl
-  where
-    go : (t : Bool) → ltb x y ≡ t → pos 128 *ℤ (pos x +ℤ neg_ℤ (pos y)) ≡ pos (128 * x) +ℤ neg_ℤ (pos (128 * y))
-    go true h =
-        let l = ltb-true x y h in
-        let m : 128 * suc (y - suc x) ≡ suc (128 * y - suc (128 * x)) = omega arith in
-        ap (λ z. pos 128 *ℤ z) (less x y l) ∙ ap (λ n. neg_ℤ (pos n)) m ∙ sym (less (128 * x) (128 * y) (omega arith))
-    go false h =
-        let l = ltb-false x y h in
-        let m : 128 * (x - y) ≡ 128 * x - 128 * y = omega arith in
-        ap (λ z. pos 128 *ℤ z) (more x y l) ∙ ap pos m ∙ sym (more (128 * x) (128 * y) (omega arith))
-
 pub as_published : (p : ℕ) (a : ℤ) → (upper p a ≡ pos 128 *ℤ numerator p a) × (lower ≡ 128 * denominator)
-as_published p (pos n) = (ap pos (omega arith), refl)
-as_published p (negsuc n) =
-    let x : p * 10 ^ 13 * 256 ≡ 128 * (20000000000000 * p) = omega arith in
-    let y : 128 * wavelength * suc n ≡ 128 * (wavelength * suc n) = omega arith in
-    (ap₂ (λ u v. pos u +ℤ neg_ℤ (pos v)) x y ∙ sym (spread (20000000000000 * p) (wavelength * suc n)), refl)
+as_published p a = (omega (arith, ints), refl)

@@ -6,7 +6,6 @@
 ghost use Rattle.std.specs.Prelude.{◌≡◌, IfOk};
 ghost use Rattle.report.specs.Ends.{status_of};
 
-use argument::Small;
 use blocks::Block;
 use division::Walked;
 use std::env::{Env, FillError};
@@ -287,16 +286,16 @@ pub fn rows(rt: &HostRuntime) -> io::Result<()>
 }
 
 // The word that a program is started with, and nothing else, as a number: one of more than 64 bytes is none.
-fn started_with(rt: &HostRuntime) -> Small {
+fn started_with(rt: &HostRuntime) -> Option<u8> {
     let mut word = [0u8; 64];
     match rt.arg(1, &mut word) {
         Ok(length) => {
             if goes_on(rt) {
-                return Small::Other;
+                return None;
             }
             argument::small_number(text::front(&word, length))
         }
-        Err(_) => Small::Other,
+        Err(_) => None,
     }
 }
 
@@ -311,10 +310,10 @@ pub fn breaks(rt: &HostRuntime) -> io::Result<()>
     ensures { IfOk result (λ u. u ≡ tt) }
 {
     match started_with(rt) {
-        Small::Number(signal) => {
+        Some(signal) => {
             print_recording(rt, Printed::Breaks(signal), b"at sid time break\n")
         }
-        Small::Other => {
+        None => {
             let _ = eprintln!(rt;
                 "error: the argument has to be a TYPE, 0 to 255 in decimal digits"
             );

@@ -110,7 +110,7 @@ fn copy_part(bytes: &[u8], from: usize, to: usize, buffer: &mut [u8])
     requires { (from ≤ to) × (to ≤ length bytes.now) × (to - from ≤ length buffer.old) }
     ensures { buffer.new ≡ over (take (to - from) (drop from bytes.now)) buffer.old }
 {
-    octets::copy(&bytes[from..to], buffer);
+    buffer[..to - from].copy_from_slice(&bytes[from..to]);
 }
 
 // The n bytes from index `from` on, to the front of the window.
@@ -334,7 +334,7 @@ fn conclude(state: State, ended: bool, counted: Counted, window: &mut [u8]) -> R
     let summed = state.summed as usize + counted.summed;
     let reply = reply_of(state.total as usize, ended, outcome, summed);
     let left = reply.state.held as usize;
-    octets::clear(&mut window[left..]);
+    window[left..].fill(0);
     reply
 }
 

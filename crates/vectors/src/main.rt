@@ -213,8 +213,10 @@ fn put_rolls(text: &mut [u8], at: usize, range: u64, adr: i64) -> usize {
         cn0: 20,
         reserved: 0,
     };
-    novatel::write_record(&mut bytes, fields);
-    put_correction(text, at, &bytes)
+    match novatel::write_record(&mut bytes, fields) {
+        Ok(_) => put_correction(text, at, &bytes),
+        Err(refusal) => put_count(text, at, b"refused ", refusal::number(refusal)),
+    }
 }
 
 // Rolls that doubles get wrong, and the longest range with the least and the largest ADR.

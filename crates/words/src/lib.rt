@@ -161,6 +161,7 @@ pub fn header_in(words: HeaderWords) -> Header
     Header { form, time, offset }
 }
 
+#[tactic(auto, using(octets::proofs::Signed::signed_cast))]
 pub fn observation_in(words: ObservationWords) -> Observation
     ensures { result ≡ observation_in words }
 {
@@ -170,7 +171,7 @@ pub fn observation_in(words: ObservationWords) -> Observation
         cn0: (words.cn0 % 256) as u8,
         phase: words.phase,
         pseudorange: (words.pseudorange % 4294967296) as u32,
-        rate: octets::signed_of(low_bits(words.rate)),
+        rate: low_bits(words.rate).cast_signed(),
         lock: units::LockCount::from_count((words.lock % 4294967296) as u32),
     }
 }
