@@ -165,6 +165,16 @@ pub reading_asks_nothing :
     × AsksNothing reason_contracts.reason_at.ended reason.reason_at.Reads.Asked
 reading_asks_nothing = ((λ κs a. tt), (λ κs a. tt), (λ κs a. tt), (λ κs a. tt), (λ κs a. tt), (λ κs a. tt), (λ κs a. tt), (λ κs a. tt))
 
+pub claimed_messages_ask_nothing :
+    AsksNothing macm_contracts.claimed.Claimed.of.ended macm.claimed.Claimed.of.Reads.Asked
+    × AsksNothing macm_contracts.claimed.Claimed.checked.ended macm.claimed.Claimed.checked.Reads.Asked
+    × AsksNothing macm_contracts.claimed.Claimed.form.ended macm.claimed.Claimed.form.Reads.Asked
+    × AsksNothing macm_contracts.claimed.Claimed.count.ended macm.claimed.Claimed.count.Reads.Asked
+    × AsksNothing macm_contracts.claimed.Claimed.header.ended macm.claimed.Claimed.header.Reads.Asked
+    × AsksNothing macm_contracts.claimed.Claimed.observation.ended macm.claimed.Claimed.observation.Reads.Asked
+    × AsksNothing macm_contracts.claimed.Claimed.observations.ended macm.claimed.Claimed.observations.Reads.Asked
+claimed_messages_ask_nothing = ((λ κs a. tt), (λ κs a. tt), (λ κs a. tt), (λ κs a. tt), (λ κs a. tt), (λ κs a. tt), (λ κs a. tt))
+
 pub writing_asks_nothing :
     AsksNothing compose_contracts.start.ended compose.start.Reads.Asked
     × AsksNothing compose_contracts.set.ended compose.set.Reads.Asked
