@@ -326,11 +326,13 @@ impl From<Result<Next, Refusal>> for FoundWords {
                 refusal: refusal::number(refusal),
                 ..FoundWords::default()
             },
-            Ok(Next::Message {
-                position,
-                length,
-                gap,
-            }) => FoundWords {
+            Ok(
+                Next::Message {
+                    position,
+                    length,
+                    gap,
+                },
+            ) => FoundWords {
                 refusal: 0,
                 kind: 1,
                 position: position as u64,
