@@ -33,10 +33,7 @@ use words::{AnswerWords, HeaderWords, ObservationWords, RecordWords, WrittenWord
 pub fn cs_check(message: &[u8]) -> u64
     ensures { result ≡ check_number (verdict message.now) }
 {
-    match macm::check(message) {
-        Err(refusal) => refusal::number(refusal),
-        Ok(_) => 0,
-    }
+    macm::check(message).err().map_or(0, refusal::number)
 }
 
 pub fn cs_read_header(message: &[u8]) -> words::HeadWords
@@ -60,7 +57,8 @@ pub fn cs_start(output: &mut [u8], header: HeaderWords, count: u8) -> WrittenWor
 pub fn cs_set(message: &mut [u8], index: usize, observation: ObservationWords) -> u64
     ensures { (result ≡ written_number (set_of message.old index)) × (message.new ≡ set_bytes message.old index (observation_in observation)) }
 {
-    WrittenWords::from(compose::set(message, index, observation.into())).refusal
+    let written = compose::set(message, index, observation.into());
+    written.err().map_or(0, refusal::number)
 }
 
 pub fn cs_to_new(message: &[u8], signal: u8, tfom: u8, output: &mut [u8]) -> WrittenWords
