@@ -128,14 +128,11 @@ pub struct AdrWords {
 // ---- words in: of each the low bits that its field holds
 
 // The low 32 bits of a signed word.
+#[tactic(auto, using(crate::proofs::Low::low_cast))]
 fn low_bits(rate: i64) -> u32
     ensures { result ≡ low_bits rate }
 {
-    if rate >= 0 {
-        (rate as u64 % 4294967296) as u32
-    } else {
-        (4294967295 - (-1 - rate) as u64 % 4294967296) as u32
-    }
+    (rate.cast_unsigned() % 4294967296) as u32
 }
 
 // 1 is the old form, anything else the new one.
