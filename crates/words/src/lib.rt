@@ -202,7 +202,7 @@ impl From<RecordWords> for Record {
     }
 }
 
-// ---- words out: every word but the refusal is 0 where a call refuses
+// ---- words out: where a call refuses, every word but the refusal is 0
 
 impl From<Header> for HeaderWords {
     ghost from_gives = { λ header words. words ≡ header_words header };
@@ -366,7 +366,7 @@ impl From<Result<Reason, Refusal>> for ReasonWords {
     }
 }
 
-// All of the bytes offered are taken where more is needed. It is made of two things, and a From takes one.
+// All of the bytes offered are taken where more is needed. No From: of a pair it would not say that the number is what was offered.
 pub fn answer_words(reply: stream::Reply, offered: u64) -> AnswerWords
     ensures { result ≡ answer_words reply.answer offered }
 {
