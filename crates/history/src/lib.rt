@@ -143,7 +143,7 @@ fn is_of(signal: u64, form: Form) -> bool
 }
 
 // The breaks of a message that is checked, or claimed: the list is looked at before TYPE.
-#[tactic(auto, using(crate::proofs::CallSteps::call_without_room, crate::proofs::CallSteps::call_passes_over, crate::proofs::CallSteps::call_takes))]
+#[tactic(auto, using(crate::proofs::CallSteps::call_without_room, crate::proofs::CallSteps::call_passes_over), unfolding(macm::specs::Read::header_of))]
 fn list_breaks(history: &mut [u64], list: &mut [u64], claimed: &Claimed) -> Result<usize, Refusal>
     requires { length history.old ≡ history_words }
     ensures { Leaves (call_of claimed.now history.old list.old) result history.new list.new }
