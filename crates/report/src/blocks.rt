@@ -5,7 +5,7 @@ ghost use Rattle.std.specs.Io.KnownBytes.{Keeps, Appends, Consumes, IsAtEnd};
 use std::io;
 use std::io::{ErrorKind, Read, Write};
 
-// A block of memory. Its length is a parameter, since counting a large one out is more than the checker can.
+// A block of memory for a text. Its length is a parameter, since counting a large one out is more than the checker can.
 #[derive(Drop)]
 pub(crate) struct Block<const N: usize> {
     bytes: [u8; N],
