@@ -136,7 +136,7 @@ fn started_with(rt: &HostRuntime) -> Option<u8> {
     if goes_on(rt) {
         return None;
     }
-    argument::small_number(text::front(&word, length))
+    argument::small_number(&word[..length])
 }
 
 // Whether there is a word behind that one.
