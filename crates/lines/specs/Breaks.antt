@@ -2,7 +2,8 @@
 use Rattle.std.specs.Prelude.{ℕ, zero, suc, ◌+◌, ◌*◌, ◌≡◌, cond, List, [], ◌++◌, eqb, get_or, Result, Ok, Err}
 use Rattle.text.specs.Word.{word}
 use Rattle.text.specs.Columns.{space, number_text}
-use Rattle.text.specs.Put.{Puts}
+use Rattle.text.specs.declared.Text.{Text}
+use Rattle.text.specs.Put.{appended}
 use Rattle.history.specs.Breaks.{clock_back}
 use Rattle.history.specs.Calls.{Call}
 use Rattle.refusal.specs.declared.Refusal.{Refusal}
@@ -29,7 +30,7 @@ abbrev pub breaks_text : ℕ → Call → List ℕ
 breaks_text position c = listed_text position c.answer c.list
 
 -- they are put, and the history and the list are left as the call leaves them
-pub record Prints (out : List ℕ) (at position : ℕ) (c : Call) (at' : ℕ) (out' ws list : List ℕ) : Type 0 where
-  pub text : Puts out at (breaks_text position c) at' out'
+pub record Prints (before : Text) (position : ℕ) (c : Call) (after : Text) (ws list : List ℕ) : Type 0 where
+  pub text : after ≡ appended (breaks_text position c) before
   pub words : ws ≡ c.words
   pub listed : list ≡ c.list
