@@ -1,11 +1,15 @@
 -- The lines of some positions and of those behind them are the lines of all. Assumes nothing.
-use Rattle.std.specs.Prelude.{Result}
+use Rattle.std.specs.Prelude.{Result, Ok}
 use Prim.Native.Nat.{ℕ, zero, suc, ◌+◌, ◌-◌, ◌≤◌, ◌<◌}
 use mathlib.Core.Path.{◌≡◌, refl, sym, ap, ap₂, ◌∙◌}
 use mathlib.Core.List.{List, [], ◌++◌, append_assoc, append-nil}
 use native.Mathlib.Omega.{arith}
 use native.Mathlib.Nat.{add-zero, zero-add}
+use Rattle.text.specs.declared.Text.{Text}
+use Rattle.text.specs.Put.{appended}
+use Rattle.text.proofs.PutLaws.{appended_none, appended_join}
 use Rattle.reason.specs.declared.Reason.{Reason}
+use Rattle.reason.specs.declared.Reason.TheVariants.{Inside}
 use Rattle.reason.specs.Reason.{reason_of}
 use Rattle.account.specs.Account.{reason_text, lines_of}
 use Rattle.account.specs.Steps.{span_of, inside_of}
@@ -48,3 +52,17 @@ lines_settled s at r h =
     sym (append_assoc (lines_of f 0 at) (reason_text at r) (lines_of (inside_of at) (at + 1) k))
     ∙ ap₂ (λ t u. t ++ u) (ap (λ t. lines_of f 0 at ++ reason_text at t) (sym h.here) ∙ ap (λ p. lines_of f 0 at ++ reason_text p (f p)) (sym (zero-add at)) ∙ lines_one f 0 at) (same ∙ ap (λ p. lines_of f p k) (sym v))
     ∙ sym (lines_join f 0 (suc at) k) ∙ ap (lines_of f 0) y
+
+-- ---- put one behind the other
+pub inside_none : (start : ℕ) (text : Text) → text ≡ appended (lines_of (inside_of start) (start + 1) (start + 1 - (start + 1))) text
+inside_none start text =
+    let z : start + 1 - (start + 1) ≡ 0 = omega arith in
+    rw (z, lines_none (inside_of start) (start + 1)) (appended_none text)
+
+pub inside_more : (start p : ℕ) (text : Text) → start + 1 ≤ p → appended (reason_text p (Ok (Inside start))) (appended (lines_of (inside_of start) (start + 1) (p - (start + 1))) text) ≡ appended (lines_of (inside_of start) (start + 1) (p + 1 - (start + 1))) text
+inside_more start p text l =
+    let k = p - (start + 1) in
+    let z : start + 1 + k ≡ p = omega arith in
+    let y : suc k ≡ p + 1 - (start + 1) = omega arith in
+    appended_join (lines_of (inside_of start) (start + 1) k) (reason_text p (Ok (Inside start))) text
+    ∙ ap (λ t. appended t text) (ap (λ q. lines_of (inside_of start) (start + 1) k ++ reason_text q (Ok (Inside start))) (sym z) ∙ lines_one (inside_of start) (start + 1) k ∙ ap (lines_of (inside_of start) (start + 1)) y)

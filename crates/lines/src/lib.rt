@@ -147,6 +147,7 @@ fn put_row(text: &mut Text, head: &[u8], form: Form, observation: Observation)
 }
 
 // The rows of all observations of a message.
+#[tactic(auto, using(crate::proofs::RowSteps::rows_none, crate::proofs::RowSteps::rows_more))]
 fn put_observations(text: &mut Text, head: &[u8], claimed: &Claimed)
     ensures { text.new ≡ appended (rows_up_to claimed.now.count head.now claimed.now.form claimed.now.count claimed.now.bytes) text.old }
 {
@@ -215,7 +216,8 @@ pub fn put_breaks(
 )
     ensures { Prints text.old position (claimed_call message.now history.old list.old) text.new history.new list.new }
 {
-    if let Ok(count) = history::claimed_breaks(message, history, list) {
-        put_listed(text, position, list, count);
-    }
+    let Ok(count) = history::claimed_breaks(message, history, list) else {
+        return;
+    };
+    put_listed(text, position, list, count);
 }
