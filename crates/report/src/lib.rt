@@ -29,10 +29,7 @@ const FAILED: u8 = 1;
 // ---- in and out
 
 // Reads the next block: how the input ended, where it did. Where reading fails that is said, and the input is over.
-fn read_on<const N: usize>(
-    rt: &HostRuntime,
-    pending: &mut Pending<N>,
-) -> Option<io::Result<()>> {
+fn read_on<const N: usize>(rt: &HostRuntime, pending: &mut Pending<N>) -> Option<io::Result<()>> {
     match pending.read(&mut rt.stdin()) {
         Ok(0) => Some(Ok(())),
         Ok(_) => None,
@@ -57,7 +54,7 @@ fn write_out(rt: &HostRuntime, text: &mut Text) -> io::Result<()> {
 
 // ---- the division
 
-// The first message of the bytes, or how many of them are gap bytes for certain.
+// A walk over the bytes stops within them.
 fn walk(over: bool, bytes: &[u8]) -> Walked
     ensures { Within (length bytes.now) result }
 {
@@ -114,11 +111,7 @@ fn print_recording<P: Printer>(
 pub fn listing(rt: &HostRuntime) -> io::Result<()>
     ensures { IfOk result (λ u. u ≡ tt) }
 {
-    print_recording(
-        rt,
-        &mut Listing::new(),
-        b"at bytes form obs time\n",
-    )
+    print_recording(rt, &mut Listing::default(), b"at bytes form obs time\n")
 }
 
 // The rows for the people who compute the track.
@@ -150,9 +143,7 @@ pub fn breaks(rt: &HostRuntime) -> io::Result<()>
     ensures { IfOk result (λ u. u ≡ tt) }
 {
     match started_with(rt) {
-        Some(signal) => {
-            print_recording(rt, &mut Breaks::new(signal), b"at sid time break\n")
-        }
+        Some(signal) => { print_recording(rt, &mut Breaks::new(signal), b"at sid time break\n") }
         None => {
             let _ = eprintln!(rt;
                 "error: the argument has to be a TYPE, 0 to 255 in decimal digits"

@@ -2,6 +2,7 @@
 ghost use Rattle.std.specs.Prelude.{◌≡◌, ◌-◌, ◌<◌, ◌≤◌, ℕ, List, [], ◌++◌, length, take, drop, IfOk, OnErr};
 ghost use Rattle.std.specs.Io.KnownBytes.{Keeps, Consumes, IsAtEnd};
 
+use crate::blocks;
 use std::io;
 use std::io::Read;
 use std::marker::Model;
@@ -57,7 +58,7 @@ impl<const N: usize> Pending<N> {
         let kept = keep(&mut self.block, self.from, self.end);
         self.from = 0;
         self.end = kept;
-        let count = super::blocks::read_behind(reader, &mut self.block, kept)?;
+        let count = blocks::read_behind(reader, &mut self.block, kept)?;
         self.end += count;
         Ok(count)
     }

@@ -10,19 +10,10 @@ pub(crate) trait Printer {
 }
 
 // The messages so far, and all bytes of them: the others are gap bytes.
-#[derive(Drop)]
+#[derive(Default, Drop)]
 pub(crate) struct Listing {
     messages: u64,
     given: u64,
-}
-
-impl Listing {
-    pub(crate) fn new() -> Listing {
-        Listing {
-            messages: 0,
-            given: 0,
-        }
-    }
 }
 
 impl Printer for Listing {
@@ -66,12 +57,6 @@ impl Breaks {
 
 impl Printer for Breaks {
     fn print(&mut self, text: &mut Text, position: u64, message: &[u8]) {
-        lines::put_breaks(
-            text,
-            position,
-            message,
-            &mut self.history,
-            &mut self.list,
-        );
+        lines::put_breaks(text, position, message, &mut self.history, &mut self.list);
     }
 }
