@@ -26,7 +26,7 @@ module _ (ended : Bool) (s : List ℕ) (reach at : ℕ) (l : at < length s) wher
   unfolding walked_by
   passes e = walk_at ∙ rw e
 
-furthest : (a b : ℕ) → further a b ≡ max a b
+pub furthest : (a b : ℕ) → further a b ≡ max a b
 furthest a b = go (ltb a b) refl
   where
     go : (t : Bool) → ltb a b ≡ t → cond t b a ≡ max a b
