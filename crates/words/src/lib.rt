@@ -297,6 +297,7 @@ impl From<Result<usize, Refusal>> for WrittenWords {
     }
 }
 
+// Apart from WrittenWords, since the header calls the number by another name.
 impl From<Result<usize, Refusal>> for ListedWords {
     ghost from_gives = { λ listed words. words ≡ listed_words listed };
 
