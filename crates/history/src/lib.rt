@@ -71,7 +71,7 @@ fn last_of(row: &[u64]) -> Last
     }
 }
 
-// Three numbers in place of a row's. One by one: a copy of a slice first asks whether the two overlap, and takes a sixth longer in all.
+// Three numbers in place of a row's. One by one: a copy of a slice first asks whether the two overlap, and an observation takes a third longer.
 fn put_three(row: &mut [u64], first: u64, second: u64, third: u64)
     requires { length row.old ≡ 3 }
     ensures { row.new ≡ first ∷ second ∷ third ∷ [] }
