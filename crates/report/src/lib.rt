@@ -212,12 +212,16 @@ fn turn(
     let passage = division::walk(progress.over, rest);
     let walked = passage.walked;
     match walked {
-        Walked::Message(at, length, _) => {
+        Walked::Message {
+            gap: at,
+            length,
+            ..
+        } => {
             let message = part(rest, at, wrapping_add_usize(at, length));
             passed(progress, at);
             given(rt, progress, message, text, history, list, outcome);
         }
-        Walked::Unsettled(at) => {
+        Walked::Unsettled { gap: at } => {
             passed(progress, at);
             if progress.over {
                 ended(rt, progress, text, outcome);
