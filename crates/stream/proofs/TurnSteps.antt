@@ -262,10 +262,15 @@ module _ (e : Bool) (h₀ g₀ : ℕ) (w₀ o₀ p : List ℕ) (h g t : ℕ) (w 
 
 -- ---- the bytes held alone, with none to come
 module _ (held gap : ℕ) (w o : List ℕ) (r : Walked) (z : r ≡ walk_of true (take held w) 0 0) where
-  pub ends_with_none : (k : ℕ) → r ≡ Unsettled k → CameTo (fed [] (scan true (take held w) gap)) [] w o (Nothing (gap + k) 0 0) w o
-  ends_with_none k q =
-      let m = found_none true (take held w) r z k q in
-      let y : m.ahead ≡ k = omega (arith, m.counted) in
-      let s : scan true (take held w) gap ≡ stop (gap + k) (drop k (take held w)) = m.is gap ∙ rw y in
-      let n : drop k (take held w) ≡ [] = rw s at (scan_empty_at (take held w) gap) in
-      (ap (fed []) (s ∙ ap (stop (gap + k)) n) ∙ fed_nil (gap + k) [], refl, omega arith, refl, refl)
+  module _ (l : held ≤ length w) (k : ℕ) (q : r ≡ Unsettled k) where
+    pub end_within : k ≤ held
+    end_within = let m = found_none true (take held w) r z k q in omega (arith, m.counted, m.within, length-take-le held w l)
+
+    pub ends_with_none : CameTo (fed [] (scan true (take held w) gap)) [] w o (Nothing (gap + k) 0 (held - k)) w o
+    ends_with_none =
+        let m = found_none true (take held w) r z k q in
+        let y : m.ahead ≡ k = omega (arith, m.counted) in
+        let s : scan true (take held w) gap ≡ stop (gap + k) (drop k (take held w)) = m.is gap ∙ rw y in
+        let n : drop k (take held w) ≡ [] = rw s at (scan_empty_at (take held w) gap) in
+        let x : held - k ≡ 0 = omega (arith, ap length n, length-drop k (take held w), length-take-le held w l) in
+        rw x (ap (fed []) (s ∙ ap (stop (gap + k)) n) ∙ fed_nil (gap + k) [], refl, omega arith, refl, refl)

@@ -305,7 +305,7 @@ fn divide_rest(state: State, window: &mut [u8], output: &mut [u8]) -> Counted
             outcome: Outcome::Nothing {
                 gap: gap + at,
                 taken: 0,
-                held: 0,
+                held: held - at,
             },
             summed,
         },
