@@ -134,11 +134,8 @@ fn is_of(signal: u64, form: Form) -> bool
     ensures { result ≡ is_of signal form }
 {
     match form {
-        Form::New {
-            signal: other,
-            tfom: _,
-        } => other as u64 == signal,
-        Form::Old { version: _ } => false,
+        Form::New { signal: other, .. } => other as u64 == signal,
+        Form::Old { .. } => false,
     }
 }
 
