@@ -164,7 +164,7 @@ pub fn walk(ended: bool, bytes: &[u8]) -> Passage
             } => {
                 at = next;
                 reach = needed;
-                summed = std::num::wrapping_add_usize(summed, more);
+                summed = summed.wrapping_add(more);
             }
             // None will come.
             Step::Wants if ended => at += 1,
@@ -180,7 +180,7 @@ pub fn walk(ended: bool, bytes: &[u8]) -> Passage
                         length,
                         reach,
                     },
-                    summed: std::num::wrapping_add_usize(summed, more),
+                    summed: summed.wrapping_add(more),
                 };
             }
         }
