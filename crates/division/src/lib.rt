@@ -153,7 +153,7 @@ pub fn walk(ended: bool, bytes: &[u8]) -> Passage
 {
     let mut at = 0;
     let mut reach = 0;
-    let mut summed = 0;
+    let mut summed: usize = 0;
     // A position may pass over many, so this is no `for`.
     while at < bytes.len() {
         match settle(bytes, at, reach) {
