@@ -88,7 +88,9 @@ fn print_recording<P: Printer>(
                 position = start.wrapping_add(length as u64);
                 pending.pass(at + length);
                 if text.at() > 65536 {
-                    write_out(rt, &mut text)?;
+                    if let Err(error) = write_out(rt, &mut text) {
+                        return ended.unwrap_or(Ok(())).and(Err(error));
+                    }
                 }
             }
             Walked::Unsettled { gap: at } => {
