@@ -147,7 +147,8 @@ fn settle(bytes: &[u8], at: usize, reach: usize) -> Step
     }
 }
 
-// The positions in turn, to the first message or to the first that is not settled. `ended` says whether the stream ends behind the bytes.
+// The positions in turn, to the first message or to the first that is not settled. `ended` says whether the stream ends behind the bytes: the definition of
+// a walk is by it.
 pub fn walk(ended: bool, bytes: &[u8]) -> Passage
     ensures { result ≡ whole_walk ended bytes.now }
 {

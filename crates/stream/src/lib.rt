@@ -223,6 +223,7 @@ fn turns(
 {
     let mut taken = 0;
     let mut summed = 0;
+    // How far a turn comes is what the walk says and the piece has, so this is no `for`.
     loop {
         let passage = division::walk(false, &window[..held]);
         summed += passage.summed;
@@ -383,7 +384,8 @@ pub fn feed(state: State, piece: &[u8], window: &mut [u8], output: &mut [u8]) ->
     }
 }
 
-// The end of the stream: the remaining messages one a call, then the end, the same each time after (8, 9).
+// The end of the stream: the remaining messages one a call, then the end, the same each time after (8, 9). Its checks and its walk are not those of a
+// feed, and a body for both would need a flag to tell them apart.
 pub fn finish(state: State, window: &mut [u8], output: &mut [u8]) -> Reply
     ensures { Leaves (finish_call state window.old output.old) result window.new output.new }
 {
