@@ -138,6 +138,7 @@ impl Measured {
         -rounded(short - 1)
     }
 
+    // The rolls, and the ADR less these.
     fn less_rolls(self) -> Corrected
         ensures { result ≡ record { rolls = rolls_of self.range self.adr; adr = corrected_of self.range self.adr } }
     {

@@ -147,7 +147,7 @@ pub fn offset_of(header: Header) -> Offset
 
 // ---- CONDITION
 
-// By the code in bits 8 to 10, of which 0, 5 and 7 are defined.
+// By the code in bits 8 to 10, of which 0, 5 and 7 are defined. No From<u8>: it is of CONDITION, so that the code's bits are cut out in one place.
 #[tactic(auto, unfolding(crate::specs::Condition::polarity_of))]
 fn polarity_of(condition: u16) -> Polarity
     ensures { result ≡ polarity_of (polarity_code condition) }
