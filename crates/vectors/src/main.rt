@@ -38,11 +38,13 @@ fn put_recording(text: &mut Text, recording: &[u8]) {
     let mut start = 0;
     for _ in 0..=recording.len() {
         match division::next_message(recording, start) {
-            Ok(Next::Message {
-                position,
-                length,
-                gap,
-            }) => {
+            Ok(
+                Next::Message {
+                    position,
+                    length,
+                    gap,
+                },
+            ) => {
                 let message = division::message_part(recording, start);
                 put_given(text, gap as u64, position as u64, message);
                 start = position + length;
