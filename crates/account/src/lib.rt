@@ -73,6 +73,7 @@ fn put_account(text: &mut Text, recording: &[u8])
     ensures { text.new ≡ appended (account_text recording.now) text.old }
 {
     let mut position = 0;
+    // A message passes over many positions at once, so this is no `for`.
     while position < recording.len() {
         let reason = reason::reason_here(&recording[position..]);
         let end = position + span(reason);

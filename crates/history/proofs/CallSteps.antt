@@ -19,10 +19,6 @@ use Rattle.history.specs.Calls.{list_numbers, Leaves, refusing, listing, call_by
 use Rattle.history.specs.Steps.{Takes}
 use Rattle.history.proofs.Takes.{numbers_length}
 
-pub call_refused : (m ws list : List ℕ) (head : Result (Header × ℕ) Refusal) (r : Refusal) (a : Result ℕ Refusal) → head ≡ Err r → a ≡ Err r → Leaves (call_by head m ws list) a ws list
-unfolding call_by
-call_refused m ws list head r a e p = rw e (record { answer = p; words = refl; list = refl })
-
 module _ (m ws list : List ℕ) (h : Header) (n : ℕ) where
   pub call_without_room : length list < list_numbers → Leaves (call_by (Ok (h, n)) m ws list) (Err SmallBuffer) ws list
   unfolding call_by

@@ -104,7 +104,7 @@ pub takes_one_more : {ws list ws' list' ws'' list'' : List ℕ} {r r' : ℕ} (ti
     → Takes ws list 0 (each (λ o. appears time o ∷ []) (os ++ (o ∷ []))) r' ws'' list''
 takes_one_more time os o t u = rw (each_next (λ o. appears time o ∷ []) os o) (takes_then t u (omega arith))
 
-pub appearances_read : (k : ℕ) (f : Form) (time n : ℕ) (m : List ℕ) → appearances_up_to k f time n m ≡ each_read (appearance_of time) k f n m
+appearances_read : (k : ℕ) (f : Form) (time n : ℕ) (m : List ℕ) → appearances_up_to k f time n m ≡ each_read (appearance_of time) k f n m
 unfolding appearances_up_to
 appearances_read zero f time n m = refl
 appearances_read (suc k) f time n m = ap (λ r. r ++ appearance_of time (observed_as f n m k)) (appearances_read k f time n m)

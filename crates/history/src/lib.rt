@@ -1,9 +1,9 @@
 // Where lock broke: the messages of a recording go in one a call, and of those of one TYPE the breaks come out. A history is lent words: TYPE, then for
 // each SID whether it was seen, its last time and its last lock count. The list is lent too, three numbers for each break. A refusal changes neither.
+// C lends the two apart at each call, and so no struct holds both.
 #![tactic(auto)]
 
 ghost use Rattle.std.specs.Prelude.{◌≡◌, [], ◌∷◌, ◌+◌, ◌*◌, ◌≤◌, length};
-ghost use Rattle.octets.specs.Parts.{put};
 ghost use Rattle.history.specs.Words.{history_words, last_from, fresh_words};
 ghost use Rattle.history.specs.Appearances.{is_of};
 ghost use Rattle.history.specs.Breaks.{number_of, said_of};
@@ -71,6 +71,16 @@ fn last_of(row: &[u64]) -> Last
     }
 }
 
+// Three numbers in place of a row's. One by one: a copy of a slice first asks whether the two overlap, and an observation takes a third longer.
+fn put_three(row: &mut [u64], first: u64, second: u64, third: u64)
+    requires { length row.old ≡ 3 }
+    ensures { row.new ≡ first ∷ second ∷ third ∷ [] }
+{
+    row[0] = first;
+    row[1] = second;
+    row[2] = third;
+}
+
 // ---- one appearance
 
 // What is said of a SID that appears with this time and lock count.
@@ -100,12 +110,12 @@ fn appear(history: &mut [u64], list: &mut [u64], count: usize, appearance: Appea
     let at = 1 + 3 * sid as usize;
     let row = &mut history[at..at + 3];
     let last = last_of(row);
-    row.copy_from_slice(&[1, time, lock]);
+    put_three(row, 1, time, lock);
     let Some(which) = said_of(last, time, lock) else {
         return count;
     };
     let end = 3 * count;
-    list[end..end + 3].copy_from_slice(&[sid as u64, time, which.number()]);
+    put_three(&mut list[end..end + 3], sid as u64, time, which.number());
     count + 1
 }
 
@@ -134,16 +144,13 @@ fn is_of(signal: u64, form: Form) -> bool
     ensures { result ≡ is_of signal form }
 {
     match form {
-        Form::New {
-            signal: other,
-            tfom: _,
-        } => other as u64 == signal,
-        Form::Old { version: _ } => false,
+        Form::New { signal: other, .. } => other as u64 == signal,
+        Form::Old { .. } => false,
     }
 }
 
 // The breaks of a message that is checked, or claimed: the list is looked at before TYPE.
-#[tactic(auto, using(crate::proofs::CallSteps::call_without_room, crate::proofs::CallSteps::call_passes_over, crate::proofs::CallSteps::call_takes))]
+#[tactic(auto, using(crate::proofs::CallSteps::call_without_room, crate::proofs::CallSteps::call_passes_over), unfolding(macm::specs::Read::header_of))]
 fn list_breaks(history: &mut [u64], list: &mut [u64], claimed: &Claimed) -> Result<usize, Refusal>
     requires { length history.old ≡ history_words }
     ensures { Leaves (call_of claimed.now history.old list.old) result history.new list.new }

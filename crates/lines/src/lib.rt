@@ -173,7 +173,7 @@ pub fn put_rows(text: &mut Text, position: u64, message: &[u8])
 
 // ---- the breaks of lock
 
-// By its number, since any number can stand in a lent list.
+// By its number, as the lent list has it: as a `Break` it would need a case for numbers that never stand there.
 fn put_which(text: &mut Text, which: u64)
     ensures { text.new ≡ appended (which_text which) text.old }
 {

@@ -1,21 +1,20 @@
 -- What each answer of reading, correcting and writing comes to, in the definitions' words. Assumes nothing.
 use Rattle.std.specs.Prelude.{Result, Ok, Err}
-use Prim.Native.Nat.{ℕ, ◌-◌, ◌≤◌, ◌<◌}
+use Prim.Native.Nat.{ℕ}
 use mathlib.Core.Path.{◌≡◌, sym, ap, ap₂, ◌∙◌}
 use mathlib.Core.Bool.{Bool, true, false, ◌&&◌}
-use mathlib.Core.List.{List, ◌++◌}
+use mathlib.Core.List.{List}
 use native.Mathlib.Omega.{arith}
 use lib.Dec.{eqb}
 use lib.IntN.{ℤ}
-use lib.ListN.{length, drop}
-use borrow.Author.Tests.{eq-eqb, ne_eqb, le-leb, lt-leb}
+use lib.ListN.{length}
+use borrow.Author.Tests.{eq-eqb, ne_eqb}
 use Rattle.octets.specs.Signed.{signed_of, half}
 use Rattle.bits.specs.Fields.{cut, field_of}
 use Rattle.bits.proofs.Fields.{field_inside}
-use Rattle.refusal.specs.declared.Refusal.TheVariants.{NoRoom, OtherLength, OtherSignal, TooWide}
-use Rattle.novatel.specs.declared.Record.{Record}
-use Rattle.novatel.specs.Record.{record_of, record_bytes, fits}
-use Rattle.novatel.specs.Entries.{reading_of, writing_of, writing_bytes, says_gps, correction_in, correction_of}
+use Rattle.refusal.specs.declared.Refusal.TheVariants.{OtherLength, OtherSignal}
+use Rattle.novatel.specs.Record.{record_of}
+use Rattle.novatel.specs.Entries.{says_gps, correction_in, correction_of}
 use Rattle.novatel.specs.Rolls.{rolls_of, corrected_of}
 use Rattle.novatel.specs.declared.Corrected.{Corrected}
 use Rattle.refusal.specs.declared.Refusal.{Refusal}

@@ -55,7 +55,7 @@ pub struct Record {
 }
 
 // The rolls of an ADR, and the ADR less these.
-#[derive(Clone, Copy)]
+#[derive(Clone, Copy, Debug, PartialEq, Eq)]
 pub struct Corrected {
     pub rolls: i64,
     pub adr: i64,
@@ -91,19 +91,6 @@ struct Cycles {
     rest: u64,
 }
 
-// 2 * 10^13 and the wavelength share the factor 16, and the range is divided in two halves of 18 bits, so that 64 bits hold every product.
-fn in_cycles(range: u64) -> Cycles
-    requires { range < 68719476736 }
-    ensures { (1250000000000 * range ≡ 118933545499 * result.whole + result.rest) × (result.rest < 118933545499) × (result.whole < 1099511627776) }
-{
-    let high = range / 262144 * 1250000000000;
-    let low = high % 118933545499 * 262144 + range % 262144 * 1250000000000;
-    Cycles {
-        whole: high / 118933545499 * 262144 + low / 118933545499,
-        rest: low % 118933545499,
-    }
-}
-
 // The whole number nearest to an amount of 1/256 cycle over 2^23 cycles, halves up.
 fn rounded(amount: u64) -> i64
     requires { amount < 1108101562368 }
@@ -112,32 +99,53 @@ fn rounded(amount: u64) -> i64
     ((amount + 1073741824) / 2147483648) as i64
 }
 
-// The rest decides only where the sum is negative: it then lies between two whole numbers, and the one nearer to zero is rounded.
-#[tactic(auto, using(crate::proofs::RollSteps::behind_met))]
-fn rolls_of(range: u64, adr: i64) -> i64
-    requires { (range < 68719476736) × (mag adr < 2147483648) }
-    ensures { (result ≡ rolls_of range adr) × (mag result < 1024) }
-{
-    let Cycles { whole, rest } = in_cycles(range);
-    let sum = whole as i64 + adr;
-    if 0 <= sum {
-        return rounded(sum as u64);
-    }
-    let short = sum.unsigned_abs();
-    if rest == 0 {
-        return -rounded(short);
-    }
-    -rounded(short - 1)
+// A range and the ADR beside it, each in the bits that a record has for it.
+#[derive(Clone, Copy)]
+struct Measured {
+    range: u64,
+    adr: i64,
+    ghost range_fits: { range < 68719476736 },
+    ghost adr_fits: { mag adr < 2147483648 },
 }
 
-fn less_rolls(range: u64, adr: i64) -> Corrected
-    requires { (range < 68719476736) × (mag adr < 2147483648) }
-    ensures { result ≡ record { rolls = rolls_of range adr; adr = corrected_of range adr } }
-{
-    let rolls = rolls_of(range, adr);
-    Corrected {
-        rolls,
-        adr: adr - 2147483648 * rolls,
+impl Measured {
+    // 2 * 10^13 and the wavelength share the factor 16, and the range is divided in two halves of 18 bits, so that 64 bits hold every product.
+    fn cycles(self) -> Cycles
+        ensures { (1250000000000 * self.range ≡ 118933545499 * result.whole + result.rest) × (result.rest < 118933545499) × (result.whole < 1099511627776) }
+    {
+        let high = self.range / 262144 * 1250000000000;
+        let low = high % 118933545499 * 262144 + self.range % 262144 * 1250000000000;
+        Cycles {
+            whole: high / 118933545499 * 262144 + low / 118933545499,
+            rest: low % 118933545499,
+        }
+    }
+
+    // The rest decides only where the sum is negative: it then lies between two whole numbers, and the one nearer to zero is rounded.
+    #[tactic(auto, using(crate::proofs::RollSteps::behind_met))]
+    fn rolls(self) -> i64
+        ensures { (result ≡ rolls_of self.range self.adr) × (mag result < 1024) }
+    {
+        let Cycles { whole, rest } = self.cycles();
+        let sum = whole as i64 + self.adr;
+        if 0 <= sum {
+            return rounded(sum as u64);
+        }
+        let short = sum.unsigned_abs();
+        if rest == 0 {
+            return -rounded(short);
+        }
+        -rounded(short - 1)
+    }
+
+    fn less_rolls(self) -> Corrected
+        ensures { result ≡ record { rolls = rolls_of self.range self.adr; adr = corrected_of self.range self.adr } }
+    {
+        let rolls = self.rolls();
+        Corrected {
+            rolls,
+            adr: self.adr - 2147483648 * rolls,
+        }
     }
 }
 
@@ -186,7 +194,9 @@ pub fn corrected_adr(bytes: &[u8]) -> Result<Corrected, Refusal>
     if SIGNAL.read(bytes) != 0 {
         return Err(Refusal::OtherSignal);
     }
-    Ok(less_rolls(RANGE.read(bytes), ADR.read_signed(bytes)))
+    let range = RANGE.read(bytes);
+    let adr = ADR.read_signed(bytes);
+    Ok(Measured { range, adr }.less_rolls())
 }
 
 // ---- writing

@@ -165,6 +165,16 @@ pub reading_asks_nothing :
     × AsksNothing reason_contracts.reason_at.ended reason.reason_at.Reads.Asked
 reading_asks_nothing = ((λ κs a. tt), (λ κs a. tt), (λ κs a. tt), (λ κs a. tt), (λ κs a. tt), (λ κs a. tt), (λ κs a. tt), (λ κs a. tt))
 
+pub claimed_messages_ask_nothing :
+    AsksNothing macm_contracts.claimed.Claimed.of.ended macm.claimed.Claimed.of.Reads.Asked
+    × AsksNothing macm_contracts.claimed.Claimed.checked.ended macm.claimed.Claimed.checked.Reads.Asked
+    × AsksNothing macm_contracts.claimed.Claimed.form.ended macm.claimed.Claimed.form.Reads.Asked
+    × AsksNothing macm_contracts.claimed.Claimed.count.ended macm.claimed.Claimed.count.Reads.Asked
+    × AsksNothing macm_contracts.claimed.Claimed.header.ended macm.claimed.Claimed.header.Reads.Asked
+    × AsksNothing macm_contracts.claimed.Claimed.observation.ended macm.claimed.Claimed.observation.Reads.Asked
+    × AsksNothing macm_contracts.claimed.Claimed.observations.ended macm.claimed.Claimed.observations.Reads.Asked
+claimed_messages_ask_nothing = ((λ κs a. tt), (λ κs a. tt), (λ κs a. tt), (λ κs a. tt), (λ κs a. tt), (λ κs a. tt), (λ κs a. tt))
+
 pub writing_asks_nothing :
     AsksNothing compose_contracts.start.ended compose.start.Reads.Asked
     × AsksNothing compose_contracts.set.ended compose.set.Reads.Asked
@@ -269,22 +279,24 @@ pub parts_ask_nothing :
 parts_ask_nothing = ((λ κs a. tt), (λ κs a. tt), (λ κs a. tt), (λ κs a. tt), (λ κs a. tt), (λ κs a. tt), (λ κs a. tt))
 
 pub words_ask_nothing :
-    AsksNothing words_contracts.form_in.ended words.form_in.Reads.Asked
-    × AsksNothing words_contracts.header_in.ended words.header_in.Reads.Asked
-    × AsksNothing words_contracts.observation_in.ended words.observation_in.Reads.Asked
-    × AsksNothing words_contracts.head_words.ended words.head_words.Reads.Asked
-    × AsksNothing words_contracts.observed_words.ended words.observed_words.Reads.Asked
-    × AsksNothing words_contracts.written_words.ended words.written_words.Reads.Asked
-    × AsksNothing words_contracts.listed_words.ended words.listed_words.Reads.Asked
-    × AsksNothing words_contracts.found_words.ended words.found_words.Reads.Asked
-    × AsksNothing words_contracts.reason_words.ended words.reason_words.Reads.Asked
+    AsksNothing words_contracts.FormFromHeaderWords.from.ended words.FormFromHeaderWords.from.Reads.Asked
+    × AsksNothing words_contracts.HeaderFromHeaderWords.from.ended words.HeaderFromHeaderWords.from.Reads.Asked
+    × AsksNothing words_contracts.ObservationFromObservationWords.from.ended words.ObservationFromObservationWords.from.Reads.Asked
+    × AsksNothing words_contracts.RecordFromRecordWords.from.ended words.RecordFromRecordWords.from.Reads.Asked
+    × AsksNothing words_contracts.HeaderWordsFromHeader.from.ended words.HeaderWordsFromHeader.from.Reads.Asked
+    × AsksNothing words_contracts.ObservationWordsFromObservation.from.ended words.ObservationWordsFromObservation.from.Reads.Asked
+    × AsksNothing words_contracts.HeadWordsFromResultTuple2HeaderU8Refusal.from.ended words.HeadWordsFromResultTuple2HeaderU8Refusal.from.Reads.Asked
+    × AsksNothing words_contracts.ObservedWordsFromResultObservationRefusal.from.ended words.ObservedWordsFromResultObservationRefusal.from.Reads.Asked
+    × AsksNothing words_contracts.WrittenWordsFromResultUsizeRefusal.from.ended words.WrittenWordsFromResultUsizeRefusal.from.Reads.Asked
+    × AsksNothing words_contracts.ListedWordsFromResultUsizeRefusal.from.ended words.ListedWordsFromResultUsizeRefusal.from.Reads.Asked
+    × AsksNothing words_contracts.FoundWordsFromResultNextRefusal.from.ended words.FoundWordsFromResultNextRefusal.from.Reads.Asked
+    × AsksNothing words_contracts.ReasonWordsFromResultReasonRefusal.from.ended words.ReasonWordsFromResultReasonRefusal.from.Reads.Asked
     × AsksNothing words_contracts.answer_words.ended words.answer_words.Reads.Asked
-    × AsksNothing words_contracts.phase_words.ended words.phase_words.Reads.Asked
-    × AsksNothing words_contracts.record_in.ended words.record_in.Reads.Asked
-    × AsksNothing words_contracts.record_words.ended words.record_words.Reads.Asked
-    × AsksNothing words_contracts.adr_words.ended words.adr_words.Reads.Asked
+    × AsksNothing words_contracts.PhaseWordsFromPhase.from.ended words.PhaseWordsFromPhase.from.Reads.Asked
+    × AsksNothing words_contracts.RecordWordsFromResultRecordRefusal.from.ended words.RecordWordsFromResultRecordRefusal.from.Reads.Asked
+    × AsksNothing words_contracts.AdrWordsFromResultCorrectedRefusal.from.ended words.AdrWordsFromResultCorrectedRefusal.from.Reads.Asked
 words_ask_nothing =
-    ((λ κs a. tt), (λ κs a. tt), (λ κs a. tt), (λ κs a. tt), (λ κs a. tt), (λ κs a. tt), (λ κs a. tt), (λ κs a. tt), (λ κs a. tt), (λ κs a. tt), (λ κs a. tt), (λ κs a. tt), (λ κs a. tt), (λ κs a. tt))
+    ((λ κs a. tt), (λ κs a. tt), (λ κs a. tt), (λ κs a. tt), (λ κs a. tt), (λ κs a. tt), (λ κs a. tt), (λ κs a. tt), (λ κs a. tt), (λ κs a. tt), (λ κs a. tt), (λ κs a. tt), (λ κs a. tt), (λ κs a. tt), (λ κs a. tt), (λ κs a. tt))
 
 pub text_asks_nothing :
     AsksNothing text_contracts.Text.new.ended text.Text.new.Reads.Asked

@@ -10,7 +10,7 @@ use refusal::Refusal;
 
 // Inside the given message that begins at a position; given, with so many bytes; byte k of the sync, counted from 1, is the first that fits neither form;
 // cut short before the count byte, or by so many bytes; the checksum is off, with the residue.
-#[derive(Clone, Copy)]
+#[derive(Clone, Copy, Debug, PartialEq, Eq)]
 pub enum Reason {
     Inside(usize),
     Given(usize),
@@ -23,12 +23,13 @@ pub enum Reason {
 // ---- at the first of some bytes, which no message covers
 
 // The first byte that fits neither sync string, where neither begins the bytes.
+#[tactic(auto, using(division::proofs::WalkSteps::furthest))]
 fn wrong_at(bytes: &[u8]) -> usize
     ensures { result ≡ wrong_at bytes.now }
 {
     let new = octets::common_to(&macm::NEW_SYNC, bytes);
     let old = octets::common_to(&macm::OLD_SYNC, bytes);
-    if new < old { old + 1 } else { new + 1 }
+    new.max(old) + 1
 }
 
 // All bytes of a claimed message are here. The last one stands apart, so that the others are summed in vectors.
@@ -69,16 +70,19 @@ fn cover(recording: &[u8], position: usize) -> usize
     ensures { result ≡ cover_of recording.now position }
 {
     let mut at = 0;
+    // A message may end behind the position, or at it, so this is no `for`: the walk goes no further than it has to.
     while at < position {
         match division::next_message(recording, at) {
-            Ok(Next::Message {
-                position: start,
-                length,
-                ..
-            }) => {
+            Ok(
+                Next::Message {
+                    position: start,
+                    length,
+                    ..
+                },
+            ) => {
                 let end = start + length;
                 if position < end {
-                    return if start < position { start } else { position };
+                    return start.min(position);
                 }
                 at = end;
             }

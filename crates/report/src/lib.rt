@@ -78,16 +78,22 @@ fn print_recording<P: Printer>(
     for _ in 0..u64::MAX {
         let bytes = pending.bytes();
         match walk(ended.is_some(), bytes) {
-            Walked::Message(at, length, _) => {
+            Walked::Message {
+                gap: at,
+                length,
+                ..
+            } => {
                 let start = position.wrapping_add(at as u64);
                 printer.print(&mut text, start, &bytes[at..at + length]);
                 position = start.wrapping_add(length as u64);
                 pending.pass(at + length);
                 if text.at() > 65536 {
-                    write_out(rt, &mut text)?;
+                    if let Err(error) = write_out(rt, &mut text) {
+                        return ended.unwrap_or(Ok(())).and(Err(error));
+                    }
                 }
             }
-            Walked::Unsettled(at) => {
+            Walked::Unsettled { gap: at } => {
                 position = position.wrapping_add(at as u64);
                 pending.pass(at);
                 if let Some(outcome) = ended {

@@ -9,7 +9,7 @@ use native.Mathlib.Omega.{arith}
 use lib.ListN.{length, take, drop, replicate, length-append, length-drop}
 use lib.Seq.{length-take-le}
 use lib.Dec.{ltb, eqb}
-use borrow.Author.Tests.{lt-ltb, le-ltb, ltb-true, ltb-false, eq-eqb, ne_eqb}
+use borrow.Author.Tests.{le-ltb, ltb-false, eq-eqb}
 use Rattle.division.specs.Work.{tested_in}
 use Rattle.division.proofs.TestedSteps.{tested_most_in}
 use Rattle.refusal.specs.declared.Refusal.{Refusal}
@@ -25,13 +25,6 @@ use Rattle.stream.specs.Steps.{Allowed, Given, CameTo, settled_in, Tested, reply
 use Rattle.stream.proofs.WindowSteps.{laid_take}
 
 -- ---- a bad state
-pub sums_test : (held gap total : ℕ) → gap ≤ total → ltb (total - gap) held ≡ ltb total (gap + held)
-sums_test held gap total l = go (ltb (total - gap) held) refl
-  where
-    go : (b : Bool) → ltb (total - gap) held ≡ b → b ≡ ltb total (gap + held)
-    go true e = sym (lt-ltb total (gap + held) (omega (arith, ltb-true (total - gap) held e)))
-    go false e = sym (le-ltb total (gap + held) (omega (arith, ltb-false (total - gap) held e)))
-
 pub bad_false : (held gap total summed : ℕ) → bad held gap total summed ≡ false → (held ≤ room) × (total ≤ limit) × (gap + held ≤ total) × (summed ≤ most_summed)
 bad_false held gap total summed = go (ltb room held) refl (ltb limit total) refl (ltb most_summed summed) refl
   where
@@ -45,42 +38,12 @@ bad_false held gap total summed = go (ltb room held) refl (ltb limit total) refl
     go false x false y true w z = absurd (clash z)
     go false x false y false w z = (ltb-false room held x, ltb-false limit total y, ltb-false total (gap + held) z, ltb-false most_summed summed w)
 
--- ---- the checks, test by test
-module _ (s : State) (w o p : ℕ) where
-  pub small_window : w < room → Err SmallBuffer ≡ feed_checked s w o p
-  unfolding checked feed_checked feed_checked_by
-  small_window a = rw (lt-ltb w room a)
-
-  module _ (a : room ≤ w) where
-    pub small_output : o < room → Err SmallBuffer ≡ feed_checked s w o p
-    unfolding checked feed_checked feed_checked_by
-    small_output b = rw (le-ltb w room a, lt-ltb o room b)
-
-    module _ (b : room ≤ o) where
-      pub is_bad : bad s.held s.gap s.total s.summed ≡ true → Err BadState ≡ feed_checked s w o p
-      unfolding checked feed_checked feed_checked_by
-      is_bad c = rw (le-ltb w room a, le-ltb o room b, c)
-
-      module _ (c : bad s.held s.gap s.total s.summed ≡ false) where
-        pub has_ended : (s.ended ≡ 0 → ⊥) → Err Ended ≡ feed_checked s w o p
-        unfolding checked feed_checked feed_checked_by
-        has_ended n = rw (le-ltb w room a, le-ltb o room b, c, ne_eqb s.ended 0 n)
-
-        module _ (n : s.ended ≡ 0) where
-          pub too_much : limit < s.total + p → Err TooMuch ≡ feed_checked s w o p
-          unfolding checked feed_checked feed_checked_by
-          too_much l = rw (le-ltb w room a, le-ltb o room b, c, eq-eqb s.ended 0 n, lt-ltb limit (s.total + p) l)
-
-          pub goes_on : s.total + p ≤ limit → Ok tt ≡ feed_checked s w o p
-          unfolding checked feed_checked feed_checked_by
-          goes_on l = rw (le-ltb w room a, le-ltb o room b, c, eq-eqb s.ended 0 n, le-ltb limit (s.total + p) l)
-
--- ---- and back: what an open gate has
+-- ---- what an open gate has
 opens : (t : Bool) (r : Refusal) (k : Result Unit Refusal) → cond t (Err r) k ≡ Ok tt → (t ≡ false) × (k ≡ Ok tt)
 opens true r k e = absurd (let z : ◌≡◌ {A = ℕ} 0 1 = cc in omega arith)
 opens false r k e = (refl, e)
 
-checked_open : (s : State) (w o : ℕ) → checked s w o ≡ Ok tt → Allowed s w o 0
+pub checked_open : (s : State) (w o : ℕ) → checked s w o ≡ Ok tt → Allowed s w o 0
 unfolding checked
 checked_open s w o e =
     let a = opens (ltb w room) SmallBuffer _ e in
@@ -89,6 +52,10 @@ checked_open s w o e =
     record { window = ltb-false _ _ a.0; output = ltb-false _ _ b.0; held = c.0; sums = c.2; fits = omega arith; counted = c.3 }
 
 module _ (s : State) (w o p : ℕ) where
+  pub goes_on : checked s w o ≡ Ok tt → s.ended ≡ 0 → s.total + p ≤ limit → Ok tt ≡ feed_checked s w o p
+  unfolding feed_checked feed_checked_by
+  goes_on a n l = rw (a, eq-eqb s.ended 0 n, le-ltb limit (s.total + p) l)
+
   pub feed_allowed : feed_checked s w o p ≡ Ok tt → Allowed s w o p
   unfolding feed_checked feed_checked_by
   feed_allowed e = go (checked s w o) refl e
@@ -108,18 +75,6 @@ module _ (s : State) (w o p : ℕ) where
 
 pub allowed_fits : (s : State) (w o p : ℕ) → Allowed s w o p → (s.held ≤ room) × (room ≤ w) × (room ≤ o) × (s.gap + s.held + p ≤ limit)
 allowed_fits s w o p a = (a.held, a.window, a.output, omega (arith, a.sums, a.fits))
-
--- a finish is checked as a feed of nothing before the end
-abbrev pub unended : State → State
-unended s = record { held = s.held; gap = s.gap; total = s.total; ended = 0; summed = s.summed }
-
-finish_checked : (s : State) (w o : ℕ) → feed_checked (unended s) w o 0 ≡ checked s w o
-unfolding feed_checked feed_checked_by checked
-finish_checked s w o = go (checked s w o) refl
-  where
-    go : (g : Result Unit Refusal) → checked s w o ≡ g → feed_checked_by g (unended s) 0 ≡ g
-    go (Err r) e = refl
-    go (Ok done) e = rw (le-ltb limit (s.total + 0) (checked_open s w o e).fits)
 
 -- ---- what a call leaves
 -- the reply fits, and so do the bytes held and the bytes summed
@@ -184,12 +139,12 @@ module _ (s : State) (p w o : List ℕ) where
   feed_goes (Nothing g t h) u w₁ o₁ w₂ r z c k q v = rw z (fed_nothing s p w o _ w₁ w₂ o₁ r v g t h u c k.sum q)
 
 module _ (s : State) (w o : List ℕ) where
-  pub finish_refused : (r : Refusal) (a : Reply) → feed_checked (unended s) (length w) (length o) 0 ≡ Err r → a ≡ record { answer = Err r; state = s } → Leaves (finish_call s w o) a w o
+  pub finish_refused : (r : Refusal) (a : Reply) → checked s (length w) (length o) ≡ Err r → a ≡ record { answer = Err r; state = s } → Leaves (finish_call s w o) a w o
   unfolding finish_call
-  finish_refused r a z q = rw (sym (finish_checked s (length w) (length o)) ∙ z) (record { reply = q; window = refl; output = refl })
+  finish_refused r a z q = rw z (record { reply = q; window = refl; output = refl })
 
-  pub finish_goes : (x : Outcome) (u : ℕ) (w₁ o₁ w₂ : List ℕ) (r : Reply) → feed_checked (unended s) (length w) (length o) 0 ≡ Ok tt → CameTo (fed [] (scan true (take s.held w) s.gap)) [] w o x w₁ o₁
+  pub finish_goes : (x : Outcome) (u : ℕ) (w₁ o₁ w₂ : List ℕ) (r : Reply) → checked s (length w) (length o) ≡ Ok tt → CameTo (fed [] (scan true (take s.held w) s.gap)) [] w o x w₁ o₁
       → Tested s.gap (take s.held w ++ []) x u → r ≡ reply_to s.total true x (s.summed + u) → w₂ ≡ take r.state.held w₁ ++ replicate (length w₁ - r.state.held) 0 → Leaves (finish_call s w o) r w₂ o₁
   unfolding finish_call finish
-  finish_goes (Message n g t h) u w₁ o₁ w₂ r z c k q v = rw (sym (finish_checked s (length w) (length o)) ∙ z) (finished_message s [] w o _ w₁ w₂ o₁ r v n g t h u c refl (rw (append-nil (take s.held w)) at k.sum) q)
-  finish_goes (Nothing g t h) u w₁ o₁ w₂ r z c k q v = rw (sym (finish_checked s (length w) (length o)) ∙ z) (finished_nothing s [] w o _ w₁ w₂ o₁ r v g t h u c refl (rw (append-nil (take s.held w)) at k.sum) q)
+  finish_goes (Message n g t h) u w₁ o₁ w₂ r z c k q v = rw z (finished_message s [] w o _ w₁ w₂ o₁ r v n g t h u c refl (rw (append-nil (take s.held w)) at k.sum) q)
+  finish_goes (Nothing g t h) u w₁ o₁ w₂ r z c k q v = rw z (finished_nothing s [] w o _ w₁ w₂ o₁ r v g t h u c refl (rw (append-nil (take s.held w)) at k.sum) q)

@@ -51,5 +51,5 @@ pub fn since_lock(lock: LockCount) -> Millis
 pub fn plus(a: Millis, b: Millis) -> Millis
     ensures { result ≡ sum_of a b }
 {
-    Millis(std::num::wrapping_add_u64(a.0, b.0))
+    Millis(a.0.wrapping_add(b.0))
 }

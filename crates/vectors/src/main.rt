@@ -93,6 +93,7 @@ fn load<'a>(rt: &HostRuntime, name: &str, buffer: &'a mut [u8]) -> &'a [u8] {
 // Reads until the buffer is full, the input ends or a read fails.
 fn read_full<'a, R: Read>(reader: &mut R, buffer: &'a mut [u8]) -> &'a [u8] {
     let mut count = 0;
+    // A read brings as many bytes as it likes, so this is no `for`.
     while count < buffer.len() {
         match reader.read(&mut buffer[count..]) {
             Ok(0) | Err(_) => break,

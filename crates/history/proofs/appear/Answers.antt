@@ -11,7 +11,7 @@ returns-in_default c =
     let a = c.args in
     let at = last_at a.appearance.sid in
     let kept = c.last_of-last.ensures ∙ row_last at a.history.now in
-    let left = row_put at a.history.now _ _ _ _ c.copy_from_slice.ensures.after in
+    let left = row_put at a.history.now _ _ _ _ c.put_three.ensures in
     takes_nothing a.history.now a.list.now a.count a.appearance _ _ _ kept c.said_of.ensures left c.in_default.is
 
 pub returns : goal.returns
@@ -19,6 +19,6 @@ returns c =
     let a = c.args in
     let at = last_at a.appearance.sid in
     let kept = c.last_of-last.ensures ∙ row_last at a.history.now in
-    let left = row_put at a.history.now _ _ _ _ c.copy_from_slice.ensures.after in
-    let listed = row_put (3 * a.count) a.list.now _ _ _ _ (rw c.number.ensures at c.copy_from_slice-2.ensures.after) in
+    let left = row_put at a.history.now _ _ _ _ c.put_three.ensures in
+    let listed = row_put (3 * a.count) a.list.now _ _ _ _ (rw c.number.ensures at c.put_three-2.ensures) in
     takes_break a.history.now a.list.now a.count a.appearance _ _ _ kept c.said_of.ensures left _ c.in-Some.which c.in-Some.is listed

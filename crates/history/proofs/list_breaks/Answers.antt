@@ -4,15 +4,8 @@ use native.Mathlib.Omega.{arith}
 use Rattle.macm.specs.Read.{header_of}
 use Rattle.history.specs.Words.{type_in}
 use Rattle.history.specs.Appearances.{is_of}
-use Rattle.history.proofs.CallSteps.{call_passes_over, call_takes}
+use Rattle.history.proofs.CallSteps.{call_takes}
 use Rattle.history.proofs.list_breaks.Goals as goal
-
-pub returns-then-not-is_of : goal.returns-then-not-is_of
-unfolding header_of
-returns-then-not-is_of c =
-    let m = c.args.claimed.now in
-    let ws = c.args.history.now in
-    call_passes_over m.bytes ws c.args.list.now (header_of m.form m.bytes) m.count (omega arith) (ap (is_of (type_in ws)) (sym c.form.ensures) ∙ sym c.is_of.ensures ∙ c.if-not-is_of.true)
 
 pub returns : goal.returns
 unfolding header_of

@@ -20,16 +20,16 @@ returns-then-read-ne0 c = correct_system c.args.bytes.now c.if-bytes-ne24.false 
 pub returns-then-read-ne0-2 : goal.returns-then-read-ne0-2
 returns-then-read-ne0-2 c = correct_signal c.args.bytes.now c.if-bytes-ne24.false c.read.result c.read-2.result c.read.ensures c.if-read-ne0.false c.read-2.ensures c.if-read-ne0-2.true
 
-pub less_rolls-requires : goal.less_rolls-requires
-less_rolls-requires c =
+pub invariant_of-less_rolls : goal.invariant_of-less_rolls
+invariant_of-less_rolls c =
     let s = c.args.bytes.now in
-    let e = to_z-of_z w64 c.read_signed.result (record { sfits = c.read_signed.type_inv }) ∙ c.read_signed.ensures in
-    (rw c.read-3.ensures (field_fits 60 36 s), rw e (signed_fits (half 32) _ (field_fits 96 32 s)))
+    let e = to_z-of_z w64 c.read_signed-adr.result (record { sfits = c.read_signed-adr.type_inv }) ∙ c.read_signed-adr.ensures in
+    record { range_fits = rw c.read-range.ensures (field_fits 60 36 s); adr_fits = rw e (signed_fits (half 32) _ (field_fits 96 32 s)) }
 
 pub returns : goal.returns
 returns c =
-    let adr = c.read_signed in
-    let range = c.read-3 in
+    let adr = c.read_signed-adr in
+    let range = c.read-range in
     let signal = c in
     let system = signal in
     let s = system.args.bytes.now in

@@ -2,7 +2,7 @@
 use Rattle.std.specs.Prelude.{Ok}
 use mathlib.Core.Path.{sym, ap, ◌∙◌}
 use native.Mathlib.Omega.{arith}
-use Rattle.reason.proofs.CoverSteps.{cover_before, found_says, end_says, refused_says, covered_there, covered_by_none, covered_onward}
+use Rattle.reason.proofs.CoverSteps.{cover_before, found_says, end_says, refused_says, covered_here, covered_onward}
 use Rattle.reason.proofs.cover.Goals as goal
 
 pub returns-in-Ok-End : goal.returns-in-Ok-End
@@ -24,19 +24,12 @@ overflow_add-end c =
     let h = found_says a.recording.now l.at a.position l.invariant.0 _ c.next_message.ensures _ _ _ (c.in-Ok-Message.is ∙ ap Ok c.in-Ok-Message.field-0-is) in
     omega (arith, h.within)
 
-pub returns-then-start-position : goal.returns-then-start-position
-returns-then-start-position c =
+pub returns-then-position-end : goal.returns-then-position-end
+returns-then-position-end c =
     let a = c.args in
     let l = c.loop-at in
     let h = found_says a.recording.now l.at a.position l.invariant.0 _ c.next_message.ensures _ _ _ (c.in-Ok-Message.is ∙ ap Ok c.in-Ok-Message.field-0-is) in
-    sym (l.invariant.1 ∙ covered_there a.recording.now l.at a.position _ _ h c.if-position-end.true c.if-start-position.true)
-
-pub returns-else-start-position : goal.returns-else-start-position
-returns-else-start-position c =
-    let a = c.args in
-    let l = c.loop-at in
-    let h = found_says a.recording.now l.at a.position l.invariant.0 _ c.next_message.ensures _ _ _ (c.in-Ok-Message.is ∙ ap Ok c.in-Ok-Message.field-0-is) in
-    sym (l.invariant.1 ∙ covered_by_none a.recording.now l.at a.position _ _ h c.if-position-end.true c.if-start-position.false)
+    c.min.ensures ∙ sym (l.invariant.1 ∙ covered_here a.recording.now l.at a.position _ _ h c.if-position-end.true)
 
 pub loop-at-smaller : goal.loop-at-smaller
 loop-at-smaller c =

@@ -1,14 +1,12 @@
 -- `stream::feed` meets its contract. Assumes nothing.
 use mathlib.Core.Bool.{false}
-use Prim.Native.Nat.{ℕ}
-use mathlib.Core.Path.{◌≡◌, refl, sym}
-use native.Mathlib.Omega.{arith}
+use mathlib.Core.Path.{refl, sym}
 use Rattle.stream.proofs.CallSteps.{feed_allowed, allowed_fits, came_fits, feed_refused, feed_goes}
 use Rattle.stream.proofs.feed.Goals as goal
 
 pub divide-counted-requires : goal.divide-counted-requires
 divide-counted-requires c =
-    (allowed_fits _ _ _ _ (feed_allowed _ _ _ _ (sym c.in-Ok.ensures)), λ z. absurd (let y : ◌≡◌ {A = ℕ} 0 1 = cc in omega arith))
+    allowed_fits _ _ _ _ (feed_allowed _ _ _ _ (sym c.in-Ok.ensures))
 
 pub conclude-requires : goal.conclude-requires
 conclude-requires c =
