@@ -2,11 +2,13 @@
 # Every public function of a library has its theorem NAME_determined in its own crate's proofs/Determined.antt, stated of that function's own contract: two
 # answers are equal, or the same by SamePart or, for the programs' own, by SameWell, as owed has them. What has none has a line `CRATE::NAME: why` under the
 # exceptions of docs/PROMISES.md. And docs/PROMISES.md names it in its crate's row, and demand 1's file says of that function that it asks nothing, but for
-# the programs' own. An export for C owes none of this, since it is board's function of its name: that is for tests/exports.sh to say, which is asked here.
+# the programs' own. So does the function `from` of every From; its theorem has the name of the definition that the contract cites. An export for C owes none
+# of this, since it is board's function of its name: that is for tests/exports.sh to say, which is asked here.
 # This reads text only: that the theorems hold is rt's to say.
 set -u
 root=$(cd "$(dirname "$0")/.." && pwd -P)
 cd "$root" || exit 2
+. "$root/tools/public.sh"
 failed=0 found=0
 
 # FILE MODULE: the name by which the file cites this module; nothing where it does not.
@@ -21,8 +23,22 @@ takes() {
     done
 }
 
+# NAME: what the checker's modules of this function are called, as a pattern.
+modules_of() {
+    case $1 in
+    *::from) echo "${1%::from}\.from" ;;
+    *) echo "([A-Za-z_]+\.)*$1" ;;
+    esac
+}
+
 # NAME WORD BY: whether its theorem is stated so, in the file and by the names that has_theorem has found.
-stated() { grep -Eq "^pub $1_determined : $2 $contracts\.(([A-Za-z_]+\.)*$1)\.ended $3$proofs\.\1\.Reads\.Learnt$" "$laws"; }
+stated() {
+    case $1 in
+    *::from) theorem='[a-z_]+' ;;
+    *) theorem=$1 ;;
+    esac
+    grep -Eq "^pub ${theorem}_determined : $2 $contracts\.($(modules_of "$1"))\.ended $3$proofs\.\1\.Reads\.Learnt$" "$laws"
+}
 
 # CRATE NAME: whether its theorem stands there.
 has_theorem() {
@@ -42,7 +58,7 @@ asks_nothing() {
     demand=crates/promises/proofs/DemandOne.antt
     contracts=$(cited "$demand" "Rattle\.$1\.specs\.contracts") proofs=$(cited "$demand" "Rattle\.$1\.proofs")
     [ -n "$contracts" ] && [ -n "$proofs" ] && takes "$demand" AsksNothing &&
-        grep -Eq "^ +(× )?AsksNothing $contracts\.(([A-Za-z_]+\.)*$2)\.ended $proofs\.\2\.Reads\.Asked$" "$demand"
+        grep -Eq "^ +(× )?AsksNothing $contracts\.($(modules_of "$2"))\.ended $proofs\.\2\.Reads\.Asked$" "$demand"
 }
 
 for crate in $(sed 's/#.*//; s/:.*//; s/ .*//' crates.txt); do
@@ -51,7 +67,7 @@ for crate in $(sed 's/#.*//; s/:.*//; s/ .*//' crates.txt); do
         sh tests/exports.sh >/dev/null && continue
         echo "determined: the exports of board_c are not board's functions"
     fi
-    for name in $(sed -n 's/^ *pub \(extern "C" \)\{0,1\}fn \([a-z0-9_]*\).*/\2/p' "crates/$crate"/src/*.rt); do
+    for name in $(public_in "$crate"); do
         if has_theorem "$crate" "$name"; then
             found=$((found + 1))
         elif ! grep -q "^- \`$crate::$name\`: " docs/PROMISES.md; then

@@ -9,6 +9,7 @@
 set -u
 root=$(cd "$(dirname "$0")/.." && pwd -P)
 cd "$root" || exit 2
+. "$root/tools/public.sh"
 failed=0 found=0 against=''
 logs=target/must-fail
 kept=${XDG_CACHE_HOME:-$HOME/.cache}/cablesound/edits
@@ -152,13 +153,13 @@ for edit in crates/*/must-fail/*.edit; do
     fi
     printf '%s\n' "$wrong" | look "$crate" "$log" || failed=1
     found=$((found + $(printf '%s\n' "$wrong" | wc -l)))
-    against="$against $(printf '%s\n' "$wrong" | sed 's/.*|//' | tr ' ' '\n' | sed "s/.*:://; s/^/$crate::/")"
+    against="$against $(printf '%s\n' "$wrong" | sed 's/.*|//' | tr ' ' '\n' | sed "/::from\$/!s/.*:://; s/^/$crate::/")"
 done
 
 for crate in $(sed 's/#.*//; s/:.*//; s/ .*//' crates.txt); do
     [ -f "crates/$crate/src/lib.rt" ] || continue
     [ "$crate" = board_c ] && sh tests/exports.sh >/dev/null && continue
-    for name in $(sed -n 's/^ *pub \(extern "C" \)\{0,1\}fn \([a-z0-9_]*\).*/\2/p' "crates/$crate"/src/*.rt); do
+    for name in $(public_in "$crate"); do
         count=$(printf '%s\n' $against | grep -cx "$crate::$name")
         [ "$count" -ge 2 ] && continue
         echo "edits: $crate::$name has $count wrong versions, not two"

@@ -1,101 +1,96 @@
-// The account of a short recording: the reason of each position, a line each, put into a lent buffer as `text` puts numbers.
+// The account of a short recording: the reason of each position, a line each, put into a `Text`.
 #![tactic(auto)]
 
-ghost use Rattle.std.specs.Prelude.{◌≡◌, ◌+◌, ◌-◌, ◌<◌};
-ghost use Rattle.text.specs.Put.{Puts};
+ghost use Rattle.std.specs.Prelude.{◌≡◌, ◌+◌, ◌-◌, ◌<◌, Ok};
+ghost use Rattle.text.specs.Put.{appended};
 ghost use Rattle.account.specs.Account.{said_text, reason_text, lines_of, account_text, report_text};
 ghost use Rattle.account.specs.Steps.{span_of, inside_of};
 
 use reason::Reason;
+use refusal::Refusal;
+use text::Text;
 
 // ---- a line
 
-fn put_residue(out: &mut [u8], at: usize, residue: u8) -> usize
-    ensures { Puts out.old at (said_text (Reason.Checksum residue)) result out.new }
+#[tactic(auto, using(text::proofs::PutLaws::appended_twice))]
+fn put_residue(text: &mut Text, residue: u8)
+    ensures { text.new ≡ appended (said_text (Ok (Reason.Checksum residue))) text.old }
 {
-    let next = text::put_all(out, at, b"checksum ");
-    let next = text::put_hex(out, next, residue as u64, 2);
-    text::put(out, next, b'\n')
+    text.put_all(b"checksum ");
+    text.put_hex(residue as u64, 2);
+    text.put(b'\n');
 }
 
 // The reason and its value.
-fn put_said(out: &mut [u8], at: usize, reason: Reason) -> usize
-    ensures { Puts out.old at (said_text reason) result out.new }
+fn put_said(text: &mut Text, reason: Result<Reason, Refusal>)
+    ensures { text.new ≡ appended (said_text reason) text.old }
 {
     match reason {
-        Reason::Refused(refusal) => text::put_count(
-            out,
-            at,
-            b"refused ",
-            refusal::number(refusal),
-            b'\n',
-        ),
-        Reason::Inside(start) => text::put_count(out, at, b"inside ", start as u64, b'\n'),
-        Reason::Given(length) => text::put_count(out, at, b"given ", length as u64, b'\n'),
-        Reason::Sync(byte) => text::put_count(out, at, b"sync ", byte as u64, b'\n'),
-        Reason::CutUnknown => text::put_all(out, at, b"short -\n"),
-        Reason::CutShort(missing) => text::put_count(out, at, b"short ", missing as u64, b'\n'),
-        Reason::Checksum(residue) => put_residue(out, at, residue),
+        Err(refusal) => text.put_count(b"refused ", refusal::number(refusal), b'\n'),
+        Ok(Reason::Inside(start)) => text.put_count(b"inside ", start as u64, b'\n'),
+        Ok(Reason::Given(length)) => text.put_count(b"given ", length as u64, b'\n'),
+        Ok(Reason::Sync(byte)) => text.put_count(b"sync ", byte as u64, b'\n'),
+        Ok(Reason::CutUnknown) => text.put_all(b"short -\n"),
+        Ok(Reason::CutShort(missing)) => text.put_count(b"short ", missing as u64, b'\n'),
+        Ok(Reason::Checksum(residue)) => put_residue(text, residue),
     }
 }
 
 // The line of a position.
-fn put_reason(out: &mut [u8], at: usize, position: u64, reason: Reason) -> usize
-    ensures { Puts out.old at (reason_text position reason) result out.new }
+#[tactic(auto, using(text::proofs::PutLaws::appended_twice))]
+fn put_reason(text: &mut Text, position: u64, reason: Result<Reason, Refusal>)
+    ensures { text.new ≡ appended (reason_text position reason) text.old }
 {
-    let next = text::put_number(out, at, position, b' ');
-    put_said(out, next, reason)
+    text.put_number(position, b' ');
+    put_said(text, reason);
 }
 
 // ---- all lines
 
 // How far the next position lies that no message covers.
-fn span(reason: Reason) -> usize
+fn span(reason: Result<Reason, Refusal>) -> usize
     ensures { result ≡ span_of reason }
 {
-    let Reason::Given(length) = reason else {
+    let Ok(Reason::Given(length)) = reason else {
         return 1;
     };
     length
 }
 
 // The lines of the positions inside a given message, from behind its first byte up to its end.
-fn put_inside(out: &mut [u8], at: usize, start: usize, end: usize) -> usize
+#[tactic(auto, using(crate::proofs::Lines::inside_none, crate::proofs::Lines::inside_more))]
+fn put_inside(text: &mut Text, start: usize, end: usize)
     requires { start < end }
-    ensures { Puts out.old at (lines_of (inside_of start) (start + 1) (end - (start + 1))) result out.new }
+    ensures { text.new ≡ appended (lines_of (inside_of start) (start + 1) (end - (start + 1))) text.old }
 {
-    let mut next = at;
-    let mut position = start + 1;
-    while position < end {
-        next = put_reason(out, next, position as u64, Reason::Inside(start));
-        position += 1;
+    for position in start + 1..end {
+        put_reason(text, position as u64, Ok(Reason::Inside(start)));
     }
-    next
 }
 
 // The lines of every position, in one passage over the recording.
-fn put_account(out: &mut [u8], at: usize, recording: &[u8]) -> usize
-    ensures { Puts out.old at (account_text recording.now) result out.new }
+fn put_account(text: &mut Text, recording: &[u8])
+    ensures { text.new ≡ appended (account_text recording.now) text.old }
 {
-    let mut next = at;
     let mut position = 0;
+    // A message passes over many positions at once, so this is no `for`.
     while position < recording.len() {
         let reason = reason::reason_here(&recording[position..]);
         let end = position + span(reason);
-        next = put_reason(out, next, position as u64, reason);
-        next = put_inside(out, next, position, end);
+        put_reason(text, position as u64, reason);
+        put_inside(text, position, end);
         position = end;
     }
-    next
 }
 
 // All that is said of a recording: a heading and its lines, or that it is longer than an account may be.
-pub fn put_report(out: &mut [u8], at: usize, recording: &[u8]) -> usize
-    ensures { Puts out.old at (report_text recording.now) result out.new }
+pub fn put_report(text: &mut Text, recording: &[u8])
+    ensures { text.new ≡ appended (report_text recording.now) text.old }
 {
     if recording.len() > 61440 {
-        return text::put_all(out, at, b"longer than 61440 bytes\n");
+        text.put_all(b"longer than 61440 bytes\n");
+        return;
     }
-    let next = text::put_all(out, at, b"at reason value\n");
-    put_account(out, next, recording)
+    text.put_all(b"at reason value\n");
+    put_account(text, recording);
 }

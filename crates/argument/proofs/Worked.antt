@@ -2,21 +2,21 @@
 use mathlib.Core.Path.{◌≡◌, refl}
 use Rattle.text.specs.Word.{word}
 use Rattle.text.specs.Digits.{value_from}
-use Rattle.argument.specs.declared.Small.TheVariants.{Number, Other}
+use Rattle.std.specs.Prelude.{Some, None}
 use Rattle.argument.specs.Small.{all_digits, number_in, small_number}
 
 pub record Worked : Type 0 where
-  pub least : small_number (word "0") ≡ Number 0
-  pub most : small_number (word "255") ≡ Number 255
-  pub every_digit : small_number (word "189") ≡ Number 189
-  pub zeros_in_front : small_number (word "007") ≡ Number 7
-  pub too_large : small_number (word "256") ≡ Other
-  pub far_too_large : small_number (word "18446744073709551616") ≡ Other
-  pub nothing : small_number (word "") ≡ Other
+  pub least : small_number (word "0") ≡ Some 0
+  pub most : small_number (word "255") ≡ Some 255
+  pub every_digit : small_number (word "189") ≡ Some 189
+  pub zeros_in_front : small_number (word "007") ≡ Some 7
+  pub too_large : small_number (word "256") ≡ None
+  pub far_too_large : small_number (word "18446744073709551616") ≡ None
+  pub nothing : small_number (word "") ≡ None
   -- the bytes beside the digits in ASCII
-  pub below : small_number (word "/") ≡ Other
-  pub above : small_number (word ":") ≡ Other
-  pub behind : small_number (word "1x") ≡ Other
+  pub below : small_number (word "/") ≡ None
+  pub above : small_number (word ":") ≡ None
+  pub behind : small_number (word "1x") ≡ None
 
 pub worked : Worked
 unfolding number_in all_digits value_from

@@ -4,17 +4,20 @@ use Rattle.owed.proofs.Same.{both}
 use Rattle.bits.specs.contracts as contracts
 use Rattle.bits.proofs as bits
 
-pub field_determined : Determined contracts.field.ended bits.field.Reads.Learnt
-field_determined κs a z z' w w' p q = search both
+pub read_determined : Determined contracts.Field.read.ended bits.Field.read.Reads.Learnt
+read_determined κs a z z' w w' p q = search both
 
-pub put_field_determined : Determined contracts.put_field.ended bits.put_field.Reads.Learnt
-put_field_determined κs a z z' w w' p q = search both
+pub write_determined : Determined contracts.Field.write.ended bits.Field.write.Reads.Learnt
+write_determined κs a z z' w w' p q = search both
 
-pub signed_field_determined : Determined contracts.signed_field.ended bits.signed_field.Reads.Learnt
-signed_field_determined κs a z z' w w' p q = search both
+pub read_signed_determined : Determined contracts.Field.read_signed.ended bits.Field.read_signed.Reads.Learnt
+read_signed_determined κs a z z' w w' p q = search both
 
-pub put_signed_field_determined : Determined contracts.put_signed_field.ended bits.put_signed_field.Reads.Learnt
-put_signed_field_determined κs a z z' w w' p q = search both
+pub write_signed_determined : Determined contracts.Field.write_signed.ended bits.Field.write_signed.Reads.Learnt
+write_signed_determined κs a z z' w w' p q = search both
 
-pub holds_determined : Determined contracts.holds.ended bits.holds.Reads.Learnt
+pub holds_determined : Determined contracts.Field.holds.ended bits.Field.holds.Reads.Learnt
 holds_determined κs a z z' w w' p q = search both
+
+pub holds_signed_determined : Determined contracts.Field.holds_signed.ended bits.Field.holds_signed.Reads.Learnt
+holds_signed_determined κs a z z' w w' p q = search both

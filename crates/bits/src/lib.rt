@@ -2,112 +2,115 @@
 // Every function here takes all inputs; a width above 64 counts as 64. What lies outside the bytes reads 0, and what is written there is dropped.
 #![tactic(auto)]
 
-ghost use Rattle.std.specs.Prelude.{◌≡◌, ◌+◌, ◌<◌, ◌≤◌, ◌^◌, min, ltb};
+ghost use Rattle.std.specs.Prelude.{◌≡◌, ◌+◌, ◌≤◌, ◌^◌, ltb};
+ghost use Rattle.std.specs.Int.Signed.{mag};
 ghost use Rattle.octets.specs.Signed.{half, signed_of, raw_of};
 ghost use Rattle.bits.specs.Fields.{cut, paste, field_of, with_field};
+ghost use Rattle.bits.specs.Widths.{width_of};
 
-fn lesser(a: usize, b: usize) -> usize
-    ensures { result ≡ min a b }
-{
-    if a < b { a } else { b }
+// The bits of a field that lie in one byte.
+#[derive(Clone, Copy)]
+struct Piece {
+    low: usize,
+    count: usize,
+    ghost inside: { low + count ≤ 8 },
 }
 
-fn power(k: usize) -> u64
-    requires { k < 64 }
-    ensures { (result ≡ 2 ^ k) × (0 < result) }
-{
-    1 << k
+impl Piece {
+    fn read(self, byte: u8) -> u64
+        ensures { result ≡ cut self.low self.count byte }
+    {
+        (byte as u64 >> self.low) % (1 << self.count)
+    }
+
+    // The byte with the lowest bits of a value in their place.
+    #[tactic(auto, using(crate::proofs::Steps::piece_written, crate::proofs::Steps::piece_fits))]
+    fn write(self, byte: u8, value: u64) -> u8
+        ensures { result ≡ paste self.low self.count value byte }
+    {
+        let above = byte as u64 >> self.low >> self.count << self.count;
+        let below = byte as u64 % (1 << self.low);
+        (((above + value % (1 << self.count)) << self.low) + below) as u8
+    }
 }
 
-// ---- a field that lies in one byte
-
-// The bits of a byte from `low` on, so many.
-fn piece(byte: u8, low: usize, count: usize) -> u64
-    requires { low + count ≤ 8 }
-    ensures { result ≡ cut low count byte }
-{
-    byte as u64 / power(low) % power(count)
+// `width` bits from bit `at` on.
+#[derive(Clone, Copy, Debug, PartialEq, Eq)]
+pub struct Field {
+    pub at: usize,
+    pub width: usize,
 }
 
-// The byte with the lowest bits of a value in that place.
-fn pasted(byte: u8, low: usize, count: usize, value: u64) -> u8
-    requires { low + count ≤ 8 }
-    ensures { result ≡ paste low count value byte }
-{
-    let b = byte as u64;
-    let unit = power(low);
-    let size = power(count);
-    ((b / unit / size * size + value % size) * unit + b % unit) as u8
-}
-
-// ---- a field that lies anywhere
-
-// The field of `width` bits from bit `at` on.
-pub fn field(bytes: &[u8], at: usize, width: usize) -> u64
-    ensures { result ≡ field_of at (min width 64) bytes.now }
-{
-    let total = lesser(width, 64);
-    let mut x: u64 = 0;
-    let mut done = 0;
-    while done < total {
-        let place = at % 8 + done;
-        let index = at / 8 + place / 8;
-        if bytes.len() <= index {
-            return x;
+impl Field {
+    // What stands in the field, byte by byte: a `while`, since the first and the last step can go less far than the others.
+    pub fn read(self, bytes: &[u8]) -> u64
+        ensures { result ≡ field_of self.at (width_of self) bytes.now }
+    {
+        let width = self.width.min(64);
+        let mut value: u64 = 0;
+        let mut done = 0;
+        while done < width {
+            let place = self.at % 8 + done;
+            let index = self.at / 8 + place / 8;
+            if bytes.len() <= index {
+                return value;
+            }
+            let low = place % 8;
+            let count = (8 - low).min(width - done);
+            value += Piece { low, count }.read(bytes[index]) << done;
+            done += count;
         }
-        let low = place % 8;
-        let count = lesser(8 - low, total - done);
-        x += piece(bytes[index], low, count) << done;
-        done += count;
+        value
     }
-    x
-}
 
-// The lowest bits of a value into the field of `width` bits from bit `at` on.
-pub fn put_field(bytes: &mut [u8], at: usize, width: usize, value: u64)
-    ensures { bytes.new ≡ with_field at (min width 64) value bytes.old }
-{
-    let total = lesser(width, 64);
-    let mut v = value;
-    let mut done = 0;
-    while done < total {
-        let place = at % 8 + done;
-        let index = at / 8 + place / 8;
-        if bytes.len() <= index {
-            return;
+    // The lowest bits of a value into the field, by the same steps.
+    #[tactic(auto, using(crate::proofs::Steps::write_all, crate::proofs::Steps::write_past))]
+    pub fn write(self, bytes: &mut [u8], value: u64)
+        ensures { bytes.new ≡ with_field self.at (width_of self) value bytes.old }
+    {
+        let width = self.width.min(64);
+        let mut left = value;
+        let mut done = 0;
+        while done < width {
+            let place = self.at % 8 + done;
+            let index = self.at / 8 + place / 8;
+            if bytes.len() <= index {
+                return;
+            }
+            let low = place % 8;
+            let count = (8 - low).min(width - done);
+            bytes[index] = Piece { low, count }.write(bytes[index], left);
+            left = left >> count;
+            done += count;
         }
-        let low = place % 8;
-        let count = lesser(8 - low, total - done);
-        bytes[index] = pasted(bytes[index], low, count, v);
-        v = v >> count;
-        done += count;
     }
-}
 
-// ---- a field in two's complement
-
-// The number in the field of `width` bits from bit `at` on.
-pub fn signed_field(bytes: &[u8], at: usize, width: usize) -> i64
-    ensures { result ≡ signed_of (half (min width 64)) (field_of at (min width 64) bytes.now) }
-{
-    octets::signed_in(field(bytes, at, width), width)
-}
-
-// A number into the field of `width` bits from bit `at` on.
-pub fn put_signed_field(bytes: &mut [u8], at: usize, width: usize, z: i64)
-    ensures { bytes.new ≡ with_field at (min width 64) (raw_of (half (min width 64)) z) bytes.old }
-{
-    put_field(bytes, at, width, octets::raw_in(z, width));
-}
-
-// ---- what a field holds
-
-// Whether a field of `width` bits holds the value.
-pub fn holds(value: u64, width: usize) -> bool
-    ensures { result ≡ ltb value (2 ^ width) }
-{
-    if 64 <= width {
-        return true;
+    // The number that stands in the field, in two's complement.
+    pub fn read_signed(self, bytes: &[u8]) -> i64
+        ensures { result ≡ signed_of (half (width_of self)) (field_of self.at (width_of self) bytes.now) }
+    {
+        octets::signed_in(self.read(bytes), self.width)
     }
-    value < power(width)
+
+    // A number into the field, in two's complement.
+    pub fn write_signed(self, bytes: &mut [u8], z: i64)
+        ensures { bytes.new ≡ with_field self.at (width_of self) (raw_of (half (width_of self)) z) bytes.old }
+    {
+        self.write(bytes, octets::raw_in(z, self.width));
+    }
+
+    // Whether the field holds the value.
+    #[tactic(auto, using(crate::proofs::Steps::all_held))]
+    pub fn holds(self, value: u64) -> bool
+        ensures { result ≡ ltb value (2 ^ self.width) }
+    {
+        64 <= self.width || value < 1 << self.width
+    }
+
+    // Whether the field holds the number, in two's complement.
+    pub fn holds_signed(self, z: i64) -> bool
+        ensures { result ≡ ltb (mag z) (half self.width) }
+    {
+        octets::holds_signed(z, self.width)
+    }
 }

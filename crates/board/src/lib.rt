@@ -26,54 +26,51 @@ ghost use Rattle.board.specs.Lent.{Finds, Lists};
 
 use macm::Form;
 use stream::State;
-use words::{AnswerWords, ObservationWords, RecordWords, WrittenWords};
+use words::{AnswerWords, HeaderWords, ObservationWords, RecordWords, WrittenWords};
 
 // ---- one message
 
 pub fn cs_check(message: &[u8]) -> u64
     ensures { result ≡ check_number (verdict message.now) }
 {
-    match macm::check(message) {
-        macm::Verdict::Refused(refusal) => refusal::number(refusal),
-        macm::Verdict::Accepted(_, _) => 0,
-    }
+    macm::check(message).err().map_or(0, refusal::number)
 }
 
 pub fn cs_read_header(message: &[u8]) -> words::HeadWords
     ensures { result ≡ head_words (head_of message.now) }
 {
-    words::head_words(macm::read_header(message))
+    macm::read_header(message).into()
 }
 
 pub fn cs_read_observation(message: &[u8], index: usize) -> words::ObservedWords
     ensures { result ≡ observed_words (observed_of message.now index) }
 {
-    words::observed_words(macm::read_observation(message, index))
+    macm::read_observation(message, index).into()
 }
 
-pub fn cs_start(output: &mut [u8], header: words::HeaderWords, count: u8) -> WrittenWords
+pub fn cs_start(output: &mut [u8], header: HeaderWords, count: u8) -> WrittenWords
     ensures { (result ≡ written_words (start_of (header_in header) count output.old)) × (output.new ≡ start_bytes (header_in header) count output.old) }
 {
-    words::written_words(compose::start(output, words::header_in(header), count))
+    compose::start(output, header.into(), count).into()
 }
 
 pub fn cs_set(message: &mut [u8], index: usize, observation: ObservationWords) -> u64
     ensures { (result ≡ written_number (set_of message.old index)) × (message.new ≡ set_bytes message.old index (observation_in observation)) }
 {
-    let written = compose::set(message, index, words::observation_in(observation));
-    words::written_words(written).refusal
+    let written = compose::set(message, index, observation.into());
+    written.err().map_or(0, refusal::number)
 }
 
 pub fn cs_to_new(message: &[u8], signal: u8, tfom: u8, output: &mut [u8]) -> WrittenWords
     ensures { (result ≡ written_words (convert_of (Form.New signal tfom) message.now output.old)) × (output.new ≡ convert_bytes (Form.New signal tfom) message.now output.old) }
 {
-    words::written_words(compose::to_new(message, signal, tfom, output))
+    compose::to_new(message, signal, tfom, output).into()
 }
 
 pub fn cs_to_old(message: &[u8], version: u8, output: &mut [u8]) -> WrittenWords
     ensures { (result ≡ written_words (convert_of (Form.Old version) message.now output.old)) × (output.new ≡ convert_bytes (Form.Old version) message.now output.old) }
 {
-    words::written_words(compose::to_old(message, version, output))
+    compose::to_old(message, version, output).into()
 }
 
 // ---- a recording, whole and in pieces
@@ -81,13 +78,13 @@ pub fn cs_to_old(message: &[u8], version: u8, output: &mut [u8]) -> WrittenWords
 pub fn cs_next(recording: &[u8], start: usize) -> words::FoundWords
     ensures { result ≡ found_words (next_of recording.now start) }
 {
-    words::found_words(division::next_message(recording, start))
+    division::next_message(recording, start).into()
 }
 
 pub fn cs_why(recording: &[u8], position: usize) -> words::ReasonWords
     ensures { result ≡ reason_words (reason_of recording.now position) }
 {
-    words::reason_words(reason::reason_at(recording, position))
+    reason::reason_at(recording, position).into()
 }
 
 pub fn cs_fresh() -> State
@@ -100,8 +97,7 @@ pub fn cs_fresh() -> State
 pub fn cs_feed(state: &mut State, piece: &[u8], window: &mut [u8], output: &mut [u8]) -> AnswerWords
     ensures { Finds (feed_call state.old piece.now window.old output.old) (length piece.now) state.new result window.new output.new }
 {
-    let before = *state;
-    let reply = stream::feed(before, piece, window, output);
+    let reply = stream::feed(*state, piece, window, output);
     *state = reply.state;
     words::answer_words(reply, piece.len() as u64)
 }
@@ -110,8 +106,7 @@ pub fn cs_feed(state: &mut State, piece: &[u8], window: &mut [u8], output: &mut 
 pub fn cs_finish(state: &mut State, window: &mut [u8], output: &mut [u8]) -> AnswerWords
     ensures { Finds (finish_call state.old window.old output.old) 0 state.new result window.new output.new }
 {
-    let before = *state;
-    let reply = stream::finish(before, window, output);
+    let reply = stream::finish(*state, window, output);
     *state = reply.state;
     words::answer_words(reply, 0)
 }
@@ -131,7 +126,7 @@ pub fn cs_breaks(
 ) -> words::ListedWords
     ensures { Lists (next_call message.now history.old list.old) result history.new list.new }
 {
-    words::listed_words(history::next_breaks(message, history, list))
+    history::next_breaks(message, history, list).into()
 }
 
 // ---- numbers for the track people
@@ -151,8 +146,11 @@ pub fn cs_lock_ms(lock: u32) -> u64
 pub fn cs_phase(form: u64, observation: ObservationWords) -> words::PhaseWords
     ensures { result ≡ phase_words (phase_of (form_in form 0 0 0) (observation_in observation)) }
 {
-    let form = words::form_in(form, 0, 0, 0);
-    words::phase_words(track::phase_of(form, words::observation_in(observation)))
+    let form = Form::from(HeaderWords {
+        form,
+        ..HeaderWords::default()
+    });
+    track::phase_of(form, observation.into()).into()
 }
 
 pub fn cs_plot_row(pseudorange: u32, rate: i32) -> track::PlotRow
@@ -166,19 +164,19 @@ pub fn cs_plot_row(pseudorange: u32, rate: i32) -> track::PlotRow
 pub fn cs_rangecmp_read(bytes: &[u8]) -> RecordWords
     ensures { result ≡ record_words (reading_of bytes.now) }
 {
-    words::record_words(novatel::read_record(bytes))
+    novatel::read_record(bytes).into()
 }
 
 pub fn cs_rangecmp_write(output: &mut [u8], fields: RecordWords) -> WrittenWords
     ensures { (result ≡ written_words (writing_of (record_in fields) output.old)) × (output.new ≡ writing_bytes (record_in fields) output.old) }
 {
-    words::written_words(novatel::write_record(output, words::record_in(fields)))
+    novatel::write_record(output, fields.into()).into()
 }
 
 pub fn cs_rangecmp_adr(bytes: &[u8]) -> words::AdrWords
     ensures { result ≡ adr_words (correction_of bytes.now) }
 {
-    words::adr_words(novatel::corrected_adr(bytes))
+    novatel::corrected_adr(bytes).into()
 }
 
 pub fn cs_rangecmp_range_mm(code: u64) -> u64

@@ -26,7 +26,7 @@ ghost use Rattle.board.specs.Lent.{Finds, Lists};
 
 use macm::Form;
 use stream::State;
-use words::{AnswerWords, ObservationWords, RecordWords, WrittenWords};
+use words::{AnswerWords, HeaderWords, ObservationWords, RecordWords, WrittenWords};
 
 // ---- one message
 
@@ -52,7 +52,7 @@ pub extern "C" fn cs_read_observation(message: &[u8], index: usize) -> words::Ob
 }
 
 #[unsafe(no_mangle)]
-pub extern "C" fn cs_start(output: &mut [u8], header: words::HeaderWords, count: u8) -> WrittenWords
+pub extern "C" fn cs_start(output: &mut [u8], header: HeaderWords, count: u8) -> WrittenWords
     ensures { (result ≡ written_words (start_of (header_in header) count output.old)) × (output.new ≡ start_bytes (header_in header) count output.old) }
 {
     board::cs_start(output, header, count)

@@ -1,5 +1,7 @@
 -- A walk to the end of a slice stops where its division has the first message, so the plain reader's answer is the walk's. Assumes nothing.
 use Rattle.std.proofs.Common.{◌≡◌, ℕ, suc, ◌+◌, ◌-◌, ◌<◌, ◌≤◌, Bool, true, false, cond, ltb, leb, List, [], ◌∷◌, length, take, drop, sym, refl, ap, ◌∙◌, ap₂, add-zero, add-suc, suc-add, arith, length-drop, length-take-le, take_all, drop-drop, ltb-false, le-ltb, lt-ltb, leb-true}
+use Rattle.std.specs.Prelude.{Result, Ok, Err}
+use Rattle.refusal.specs.declared.Refusal.{Refusal}
 use Rattle.refusal.specs.declared.Refusal.TheVariants.{PastEnd}
 use Rattle.macm.specs.Check.{agrees}
 use Rattle.front.specs.declared.Claim.{Claim}
@@ -8,7 +10,7 @@ use Rattle.front.specs.Claim.{claim}
 use Rattle.front.specs.Look.{judged, look_by, look}
 use Rattle.front.proofs.Bounds.{ClaimFact, claim_fact}
 use Rattle.division.specs.declared.Next.{Next}
-use Rattle.division.specs.declared.Next.TheVariants.{Refused, Message as Given, End}
+use Rattle.division.specs.declared.Next.TheVariants.{Message as Given, End}
 use Rattle.division.specs.declared.Walked.{Walked}
 use Rattle.division.specs.declared.Walked.TheVariants.{Message, Unsettled}
 use Rattle.division.specs.Division.{Division, last, part, length_of, stands, divide}
@@ -78,24 +80,24 @@ passed_is s start k n f =
 
 -- ---- so the plain reader's answer is the walk's
 module _ (s : List ℕ) (start : ℕ) where
-  pub next_past : length s < start → Refused PastEnd ≡ next_of s start
+  pub next_past : length s < start → Err PastEnd ≡ next_of s start
   unfolding next_of
   next_past l = rw (lt-ltb (length s) start l)
 
   module _ (l : start ≤ length s) where
-    next_is : (d : Division) → divide (drop start s) 0 ≡ d → first_of start d ≡ next_of s start
+    next_is : (d : Division) → divide (drop start s) 0 ≡ d → Ok (first_of start d) ≡ next_of s start
     unfolding next_of
     next_is d e = rw (le-ltb (length s) start l, e)
 
-    pub next_given : (k n : ℕ) → Passed (drop start s) 0 k n → Given (start + k) n k ≡ next_of s start
+    pub next_given : (k n : ℕ) → Passed (drop start s) 0 k n → Ok (Given (start + k) n k) ≡ next_of s start
     next_given k n f =
         let m = take n (drop f.ahead (drop start s)) in
         let z : k ≡ 0 + f.ahead = f.counted in
         let y : n ≡ length m = sym (length-take-le n (drop f.ahead (drop start s)) (omega (arith, f.within, length-drop f.ahead (drop start s)))) in
-        ap₂ (λ i j. Given (start + i) j i) z y ∙ next_is _ (f.is 0)
+        ap Ok (ap₂ (λ i j. Given (start + i) j i) z y) ∙ next_is _ (f.is 0)
 
-    pub next_end : (k : ℕ) → Ends (drop start s) 0 (Unsettled k) → End k ≡ next_of s start
-    next_end k f = ap End f.0 ∙ next_is _ (f.1 0)
+    pub next_end : (k : ℕ) → Ends (drop start s) 0 (Unsettled k) → Ok (End k) ≡ next_of s start
+    next_end k f = ap (λ g. Ok (End g)) f.0 ∙ next_is _ (f.1 0)
 
 -- as the code has it: the walk of `&recording[start..]`
 module _ (s : List ℕ) (start : ℕ) (w : Walked) (e : w ≡ walk_of true (take (length s - start) (drop start s)) 0 0) where
@@ -111,15 +113,15 @@ module _ (s : List ℕ) (start : ℕ) (w : Walked) (e : w ≡ walk_of true (take
   ends_unsettled k q = rw q at ends
 
 -- a message that is given stands in the slice
-pub given_within : (s : List ℕ) (start p n g : ℕ) (r : Next) → r ≡ next_of s start → r ≡ Given p n g → p + n ≤ length s
+pub given_within : (s : List ℕ) (start p n g : ℕ) (r : Result Next Refusal) → r ≡ next_of s start → r ≡ Ok (Given p n g) → p + n ≤ length s
 unfolding next_of
 given_within s start p n g r e q = go (ltb (length s) start) refl
   where
-    z : next_of s start ≡ Given p n g
+    z : next_of s start ≡ Ok (Given p n g)
     z = sym e ∙ q
 
     go : (b : Bool) → ltb (length s) start ≡ b → p + n ≤ length s
-    go true t = absurd (let y : ◌≡◌ {A = Next} (Refused PastEnd) (Given p n g) = rw t at z in let x : ◌≡◌ {A = ℕ} 0 1 = cc in omega arith)
+    go true t = absurd (let y : ◌≡◌ {A = Result Next Refusal} (Err PastEnd) (Ok (Given p n g)) = rw t at z in let x : ◌≡◌ {A = ℕ} 0 1 = cc in omega arith)
     go false t = by (walk_of true (drop start s) 0 0) (walk_ends (drop start s) 0 0)
       where
         l : start ≤ length s
@@ -127,8 +129,8 @@ given_within s start p n g r e q = go (ltb (length s) start) refl
 
         by : (w : Walked) → Ends (drop start s) 0 w → p + n ≤ length s
         by (Message k m u) f =
-            let y : Given (start + k) m k ≡ Given p n g = next_given s start l k m f ∙ z in
+            let y : ◌≡◌ {A = Result Next Refusal} (Ok (Given (start + k) m k)) (Ok (Given p n g)) = next_given s start l k m f ∙ z in
             let a : start + k ≡ p = cc in
             let b : m ≡ n = cc in
             omega (arith, l, f.within, f.counted, length-drop start s)
-        by (Unsettled k) f = absurd (let y : End k ≡ Given p n g = next_end s start l k f ∙ z in let x : ◌≡◌ {A = ℕ} 0 1 = cc in omega arith)
+        by (Unsettled k) f = absurd (let y : ◌≡◌ {A = Result Next Refusal} (Ok (End k)) (Ok (Given p n g)) = next_end s start l k f ∙ z in let x : ◌≡◌ {A = ℕ} 0 1 = cc in omega arith)

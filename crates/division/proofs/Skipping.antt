@@ -1,5 +1,5 @@
 -- Bytes where no sync string starts are passed over at once. Assumes nothing.
-use Rattle.std.proofs.Common.{◌≡◌, ℕ, zero, suc, ◌+◌, ◌-◌, ◌<◌, ◌≤◌, Bool, true, false, cond, eqb, ltb, ◌⊎◌, List, ◌∷◌, length, get_or, drop, sym, refl, ap, ◌∙◌, inl, inr, ⊎_elim, add-zero, arith, drop-cons, below_more, ltb-false, ltb-true, ne_eqb}
+use Rattle.std.proofs.Common.{◌≡◌, ℕ, zero, suc, ◌+◌, ◌-◌, ◌<◌, ◌≤◌, Bool, true, false, cond, eqb, ltb, List, ◌∷◌, length, get_or, drop, sym, refl, ap, ◌∙◌, inl, inr, add-zero, arith, drop-cons, ltb-false, ltb-true, ne_eqb}
 use Rattle.octets.specs.Begins.{fit}
 use Rattle.octets.specs.declared.Fit.TheVariants.{Bad}
 use Rattle.front.specs.declared.Claim.TheVariants.{Nothing}
@@ -7,13 +7,6 @@ use Rattle.front.specs.Claim.{claim_by, claim}
 use Rattle.division.specs.Steps.{NoStart, Skipped}
 
 -- ---- what the loops find
-pub counted_one : (s : List ℕ) (at i n m : ℕ) → at + i + 1 < length s → (n ≡ 0 → (j : ℕ) → j < i → NoStart s (at + j))
-    → (m ≡ 0 → (get_or s (at + i) 0 ≡ 0x4D → ⊥) ⊎ (get_or s (at + i + 1) 0 ≡ 0x41 → ⊥)) → n + m ≡ 0 → (j : ℕ) → j < i + 1 → NoStart s (at + j)
-counted_one s at i n m l h q z = below_more (λ j. NoStart s (at + j)) i (h (omega arith)) (⊎_elim (λ x. inl x) (λ x. inr (l, x)) (q (omega arith)))
-
-pub skipped_none : (s : List ℕ) (from : ℕ) → from ≤ length s → Skipped s from from
-skipped_none s from l = record { from_on = omega arith; within = l; none = λ i a b. absurd (omega arith) }
-
 pub skipped_more : (s : List ℕ) (from i d : ℕ) → Skipped s from i → i + d ≤ length s → ((m : ℕ) → m < d → NoStart s (i + m)) → Skipped s from (i + d)
 skipped_more s from i d n l h = record { from_on = omega (arith, n.from_on); within = l; none = λ j a b. test j a b (ltb j i) refl }
   where
@@ -23,9 +16,6 @@ skipped_more s from i d n l h = record { from_on = omega (arith, n.from_on); wit
         let y : i ≤ j = ltb-false _ _ x in
         let z : i + (j - i) ≡ j = omega arith in
         rw z at (h (j - i) (omega arith))
-
-pub skipped_one : (s : List ℕ) (from i : ℕ) → Skipped s from i → i < length s → NoStart s i → Skipped s from (i + 1)
-skipped_one s from i n l h = skipped_more s from i 1 n (omega arith) (λ m k. let z : i + m ≡ i = omega arith in rw z h)
 
 -- ---- why it may be passed over: such a position claims nothing
 claim_other : (b : ℕ) (xs : List ℕ) → (b ≡ 0x4D → ⊥) → claim (b ∷ xs) ≡ Nothing

@@ -1,9 +1,9 @@
 -- What the private steps of the walk say of each other: no public contract cites these. Definitions only.
-use Rattle.std.specs.Prelude.{◌≡◌, ℕ, ◌+◌, ◌<◌, ◌≤◌, Bool, true, false, ◌⊎◌, List, length, drop, ◌≢◌, slice_index}
+use Rattle.std.specs.Prelude.{◌≡◌, ℕ, suc, ◌+◌, ◌<◌, ◌≤◌, Bool, ◌⊎◌, List, length, drop, ◌≢◌, slice_index}
 use Rattle.division.specs.declared.Step.{Step}
-use Rattle.division.specs.declared.Step.TheVariants.{On, Stop}
-use Rattle.division.specs.declared.Walked.TheVariants.{Unsettled}
-use Rattle.division.specs.Walk.{walk_of, settled}
+use Rattle.division.specs.declared.Step.TheVariants.{Gap, Wants, Message}
+use Rattle.division.specs.declared.Walked.TheVariants.{Message as Found}
+use Rattle.division.specs.Walk.{wanting, walk_of}
 use Rattle.division.specs.Work.{tested_in}
 
 -- no sync string starts at index i: no M stands there, or no A behind it
@@ -16,12 +16,10 @@ pub record Skipped (s : List ℕ) (from r : ℕ) : Type 0 where
   pub within : r ≤ length s
   pub none : (i : ℕ) → from ≤ i → i < r → NoStart s i
 
-abbrev pub wanted : Bool → ℕ → ℕ → Step
-wanted true at reach = On (at + 1) reach 0
-wanted false at reach = Stop (Unsettled at) 0
-
--- the walk from a position is the walk from where the step goes on, or stops as the step does; and the step has tested the positions between
-abbrev pub Stepped : Bool → List ℕ → ℕ → ℕ → Step → Type 0
-Stepped ended s at reach (On at' reach' u) =
-    (at < at') × (at' ≤ length s) × (walk_of ended (drop at s) at reach ≡ walk_of ended (drop at' s) at' reach') × (tested_in at' s ≡ tested_in at s + u)
-Stepped ended s at reach (Stop w u) = (walk_of ended (drop at s) at reach ≡ w) × (tested_in (settled w) s ≡ tested_in at s + u)
+-- a walk from the position, whether the stream ends behind the list or not, and the bytes tested for it
+abbrev pub Stepped : List ℕ → ℕ → ℕ → Step → Type 0
+Stepped s at reach (Gap at' reach' u) =
+    (at < at') × (at' ≤ length s) × ((ended : Bool) → walk_of ended (drop at s) at reach ≡ walk_of ended (drop at' s) at' reach') × (tested_in at' s ≡ tested_in at s + u)
+Stepped s at reach Wants =
+    ((ended : Bool) → walk_of ended (drop at s) at reach ≡ wanting ended at (walk_of ended (drop (at + 1) s) (at + 1) reach)) × (tested_in (at + 1) s ≡ tested_in at s)
+Stepped s at reach (Message n reach' u) = ((ended : Bool) → walk_of ended (drop at s) at reach ≡ Found at n reach') × (tested_in (suc at) s ≡ tested_in at s + u)

@@ -1,34 +1,39 @@
 // The division of a recording: the walk over its positions, the plain reader and its companion.
 #![tactic(auto)]
 
-ghost use Rattle.std.specs.Prelude.{◌≡◌, ℕ, ◌+◌, ◌^◌, ◌<◌, ◌≤◌, false, ◌⊎◌, length, ◌≢◌};
-ghost use Rattle.division.specs.Walk.{further, whole_walk};
+ghost use Rattle.std.specs.Prelude.{◌≡◌, ℕ, ◌+◌, ◌<◌, ◌≤◌, false, length};
+ghost use Rattle.division.specs.Walk.{whole_walk};
 ghost use Rattle.division.specs.Plain.{next_of, place_of, bytes_in};
-ghost use Rattle.division.specs.Steps.{NoStart, Skipped, wanted, Stepped};
+ghost use Rattle.division.specs.Steps.{NoStart, Skipped, Stepped};
 
 use front::Claim;
 use refusal::Refusal;
 
 // Where a walk stops: at a message, with the gap bytes before it, its length and how many of the first bytes settled it;
 // or at the first position that is not settled, or the end, with the gap bytes before.
-#[derive(Clone, Copy)]
+#[derive(Clone, Copy, Debug, PartialEq, Eq)]
 pub enum Walked {
-    Message(usize, usize, usize),
-    Unsettled(usize),
+    Message {
+        gap: usize,
+        length: usize,
+        reach: usize,
+    },
+    Unsettled {
+        gap: usize,
+    },
 }
 
 // Where a walk stops, and the bytes that it ran through the checksum, as far as 64 bits hold their number.
-#[derive(Clone, Copy)]
+#[derive(Clone, Copy, Debug, PartialEq, Eq)]
 pub struct Passage {
     pub walked: Walked,
     pub summed: usize,
 }
 
-// What the plain reader answers: a refusal; a message with its position in the whole slice, its length and the gap bytes before it;
-// the end with the gap bytes left.
-#[derive(Clone, Copy)]
+// What the plain reader comes to: a message with its position in the whole slice, its length and the gap bytes before it; or the end with the gap bytes
+// left.
+#[derive(Clone, Copy, Debug, PartialEq, Eq)]
 pub enum Next {
-    Refused(Refusal),
     Message {
         position: usize,
         length: usize,
@@ -39,37 +44,36 @@ pub enum Next {
     },
 }
 
-// A step of a walk: it goes on from a position, with so many bytes needed up to there; or it stops. Either way the bytes that it ran through the
-// checksum.
+// What a position is: gap, as all are up to `next`; one that wants bytes which are not here; or the first of a message. With how many of the first bytes
+// settled it and what came before, and the bytes run through the checksum for it.
 #[derive(Clone, Copy)]
 enum Step {
-    On(usize, usize, usize),
-    Stop(Walked, usize),
+    Gap {
+        next: usize,
+        reach: usize,
+        summed: usize,
+    },
+    Wants,
+    Message {
+        length: usize,
+        reach: usize,
+        summed: usize,
+    },
 }
 
 // ---- over bytes that begin no sync string
 
-// 1 where MA stands, 0 elsewhere: a number, so that a block of them is counted with no branch.
-fn is_start(first: u8, second: u8) -> u8
-    ensures { (result ≤ 1) × (result ≡ 0 → (first ≢ 0x4D) ⊎ (second ≢ 0x41)) }
-{
-    if first == b'M' {
-        if second == b'A' { 1 } else { 0 }
-    } else {
-        0
-    }
-}
-
-// At how many of the 64 places from `at` on MA stands. The loop has no way out, so that it is done in vectors.
-fn count_starts(bytes: &[u8], at: usize) -> u8
+// Whether MA stands at one of the 64 places from `at` on. The loop has no way out, and `&` no branch, so that it is done in vectors: a find that stops at
+// each M is half as fast.
+fn has_start(bytes: &[u8], at: usize) -> bool
     requires { at + 65 ≤ length bytes.now }
-    ensures { result ≡ 0 → (i : ℕ) → i < 64 → NoStart bytes.now (at + i) }
+    ensures { result ≡ false → (i : ℕ) → i < 64 → NoStart bytes.now (at + i) }
 {
-    let mut n: u8 = 0;
-    for i in 0..64usize {
-        n = n + is_start(bytes[at + i], bytes[at + i + 1]);
+    let mut found = false;
+    for i in 0..64 {
+        found |= (bytes[at + i] == b'M') & (bytes[at + i + 1] == b'A');
     }
-    n
+    found
 }
 
 // Whether the bytes at i do not contradict MA.
@@ -77,14 +81,7 @@ fn may_start(bytes: &[u8], i: usize) -> bool
     requires { i < length bytes.now }
     ensures { result ≡ false → NoStart bytes.now i }
 {
-    if bytes[i] != b'M' {
-        return false;
-    }
-    if i + 1 < bytes.len() {
-        bytes[i + 1] == b'A'
-    } else {
-        true
-    }
+    bytes[i] == b'M' && (i + 1 == bytes.len() || bytes[i + 1] == b'A')
 }
 
 // Whole blocks with no start in them.
@@ -93,10 +90,8 @@ fn skip_blocks(bytes: &[u8], from: usize) -> usize
     ensures { Skipped bytes.now from result }
 {
     let mut i = from;
-    while 65 <= bytes.len() - i {
-        if count_starts(bytes, i) != 0 {
-            return i;
-        }
+    // A block is 64 places and the byte behind them, which the next block begins with: no iterator has such chunks.
+    while 65 <= bytes.len() - i && !has_start(bytes, i) {
         i += 64;
     }
     i
@@ -107,83 +102,92 @@ fn next_start(bytes: &[u8], from: usize) -> usize
     requires { from ≤ length bytes.now }
     ensures { Skipped bytes.now from result }
 {
-    let mut i = skip_blocks(bytes, from);
-    while i < bytes.len() {
+    let first = skip_blocks(bytes, from);
+    for i in first..bytes.len() {
         if may_start(bytes, i) {
             return i;
         }
-        i += 1;
     }
-    i
+    bytes.len()
 }
 
 // ---- the walk
 
-fn furthest(a: usize, b: usize) -> usize
-    ensures { result ≡ further a b }
-{
-    if a < b { b } else { a }
-}
-
-// A position that wants bytes which are not here: past it at the end of the stream, where none will come.
-fn wants(ended: bool, at: usize, reach: usize) -> Step
-    requires { at + 1 < 2 ^ 64 }
-    ensures { result ≡ wanted ended at reach }
-{
-    if ended {
-        return Step::On(at + 1, reach, 0);
-    }
-    Step::Stop(Walked::Unsettled(at), 0)
-}
-
-// One position: settled as gap or as message, or not settled.
-fn settle(ended: bool, bytes: &[u8], at: usize, reach: usize) -> Step
+// One position, where `reach` of the first bytes settled those before it.
+fn settle(bytes: &[u8], at: usize, reach: usize) -> Step
     requires { at < length bytes.now }
-    ensures { Stepped ended bytes.now at reach result }
+    ensures { Stepped bytes.now at reach result }
 {
     match front::claims(&bytes[at..]) {
-        Claim::Nothing => Step::On(next_start(bytes, at + 1), reach, 0),
-        Claim::AtLeast(_) => wants(ended, at, reach),
-        Claim::Long(n) => {
-            if bytes.len() - at < n {
-                return wants(ended, at, reach);
-            }
-            let end = at + n;
-            let needed = furthest(reach, end);
+        Claim::Nothing => Step::Gap {
+            next: next_start(bytes, at + 1),
+            reach,
+            summed: 0,
+        },
+        Claim::AtLeast(_) => Step::Wants,
+        Claim::Long(length) if bytes.len() - at < length => Step::Wants,
+        Claim::Long(length) => {
+            let end = at + length;
+            let reach = reach.max(end);
             let agreement = macm::agreeing(&bytes[at..end]);
             let summed = agreement.summed;
             if agreement.agrees {
-                return Step::Stop(Walked::Message(at, n, needed), summed);
+                return Step::Message {
+                    length,
+                    reach,
+                    summed,
+                };
             }
-            Step::On(at + 1, needed, summed)
+            Step::Gap {
+                next: at + 1,
+                reach,
+                summed,
+            }
         }
     }
 }
 
-// The positions in turn, to the first message or to the first that is not settled. `ended` says whether the stream ends behind the bytes.
+// The positions in turn, to the first message or to the first that is not settled. `ended` says whether the stream ends behind the bytes: the definition of
+// a walk is by it.
 pub fn walk(ended: bool, bytes: &[u8]) -> Passage
     ensures { result ≡ whole_walk ended bytes.now }
 {
     let mut at = 0;
     let mut reach = 0;
-    let mut summed = 0;
+    let mut summed: usize = 0;
+    // A position may pass over many, so this is no `for`.
     while at < bytes.len() {
-        match settle(ended, bytes, at, reach) {
-            Step::On(next, needed, more) => {
+        match settle(bytes, at, reach) {
+            Step::Gap {
+                next,
+                reach: needed,
+                summed: more,
+            } => {
                 at = next;
                 reach = needed;
-                summed = std::num::wrapping_add_usize(summed, more);
+                summed = summed.wrapping_add(more);
             }
-            Step::Stop(walked, more) => {
+            // None will come.
+            Step::Wants if ended => at += 1,
+            Step::Wants => break,
+            Step::Message {
+                length,
+                reach,
+                summed: more,
+            } => {
                 return Passage {
-                    walked,
-                    summed: std::num::wrapping_add_usize(summed, more),
+                    walked: Walked::Message {
+                        gap: at,
+                        length,
+                        reach,
+                    },
+                    summed: summed.wrapping_add(more),
                 };
             }
         }
     }
     Passage {
-        walked: Walked::Unsettled(at),
+        walked: Walked::Unsettled { gap: at },
         summed,
     }
 }
@@ -191,22 +195,20 @@ pub fn walk(ended: bool, bytes: &[u8]) -> Passage
 // ---- the plain reader
 
 // The next message of a recording, from a start on (12).
-pub fn next_message(recording: &[u8], start: usize) -> Next
+pub fn next_message(recording: &[u8], start: usize) -> Result<Next, Refusal>
     ensures { result ≡ next_of recording.now start }
 {
     if recording.len() < start {
-        return Next::Refused(Refusal::PastEnd);
+        return Err(Refusal::PastEnd);
     }
-    let passage = walk(true, &recording[start..]);
-    let walked = passage.walked;
-    match walked {
-        Walked::Message(gap, length, _) => Next::Message {
+    Ok(match walk(true, &recording[start..]).walked {
+        Walked::Message { gap, length, .. } => Next::Message {
             position: start + gap,
             length,
             gap,
         },
-        Walked::Unsettled(gap) => Next::End { gap },
-    }
+        Walked::Unsettled { gap } => Next::End { gap },
+    })
 }
 
 // That message as the part of the recording where it stands: the empty part where there is none.
@@ -216,15 +218,16 @@ pub fn message_part(recording: &[u8], start: usize) -> &[u8]
         × (result.now ≡ bytes_in recording.now (next_of recording.now start)) }
 {
     match next_message(recording, start) {
-        Next::Message {
-            position,
-            length,
-            gap: _,
-        } => {
+        Ok(
+            Next::Message {
+                position,
+                length,
+                ..
+            },
+        ) => {
             let end = position + length;
             &recording[position..end]
         }
-        Next::Refused(_) => &recording[0..0],
-        Next::End { gap: _ } => &recording[0..0],
+        Ok(Next::End { .. }) | Err(_) => &recording[..0],
     }
 }

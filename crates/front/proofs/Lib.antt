@@ -1,4 +1,3 @@
-pub mod ClaimSteps
 pub mod Settled
 pub mod Bounds
 pub mod Waiting

@@ -8,7 +8,7 @@ use macm::Form;
 use octets::Fit;
 
 // Nothing that a message begins with; nothing to say with fewer bytes than so many; a message of so many bytes.
-#[derive(Clone, Copy)]
+#[derive(Clone, Copy, Debug, PartialEq, Eq)]
 pub enum Claim {
     Nothing,
     AtLeast(usize),

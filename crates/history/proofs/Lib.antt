@@ -1,4 +1,4 @@
-pub mod TwoFields
+pub mod Rows
 pub mod Takes
 pub mod CallSteps
 pub mod Determined

@@ -1,26 +1,25 @@
 -- What appearances leave, one after the other. Assumes nothing.
-use Prim.Native.Nat.{ℕ, ◌+◌, ◌*◌, ◌≤◌, ◌<◌}
+use Rattle.std.specs.Prelude.{Option, Some, None}
+use Prim.Native.Nat.{ℕ, zero, suc, ◌+◌, ◌*◌, ◌≤◌}
 use mathlib.Core.Path.{◌≡◌, refl, sym, ap, ap₂, ◌∙◌}
-use mathlib.Core.Bool.{Bool, true, false, cond}
 use mathlib.Core.List.{List, [], ◌∷◌, ◌++◌, append_assoc, append-nil}
 use native.Mathlib.Omega.{arith}
 use native.Mathlib.Nat.{add-zero}
-use native.Mathlib.Numerals.{add-one}
-use lib.Dec.{eqb}
 use lib.ListN.{length, length-append}
-use borrow.Author.Tests.{eq-eqb, ne_eqb}
-use Rattle.octets.specs.Parts.{put, part}
+use Rattle.octets.specs.Parts.{put}
 use Rattle.octets.proofs.Parts.{put_none, put_next}
 use Rattle.macm.specs.declared.Form.{Form}
-use Rattle.macm.specs.Form.{observation_at, size}
-use Rattle.macm.specs.Observation.{observation_of}
-use Rattle.macm.proofs.ReadSteps.{observed_there}
+use Rattle.macm.specs.declared.Observation.{Observation}
+use Rattle.macm.specs.Read.{header_of, observed_as}
+use Rattle.macm.specs.Claimed.{Message, Sized, observations_of}
+use Rattle.macm.proofs.Iterates.{each, each_next, each_read, each_first}
 use Rattle.history.specs.declared.Appearance.{Appearance}
+use Rattle.history.specs.declared.Break.{Break}
 use Rattle.history.specs.declared.Last.{Last}
 use Rattle.history.specs.Words.{last_at, last_in, put_last}
 use Rattle.history.specs.Appearances.{appears, appearance_of, appearances_up_to}
-use Rattle.history.specs.Breaks.{Entry, Kept, said_of, entry_of, entry_for, entry_at, numbers_of, after, after_all, begun}
-use Rattle.history.specs.Steps.{Takes}
+use Rattle.history.specs.Breaks.{Entry, Kept, number_of, said_of, entry_of, entry_for, entry_at, numbers_of, after, after_all, begun}
+use Rattle.history.specs.Steps.{Takes, appearances_of}
 
 -- ---- the numbers of entries
 pub numbers_length : (es : List Entry) → length (numbers_of es) ≡ 3 * length es
@@ -51,21 +50,21 @@ after_behind ws es (x ∷ xs) =
     ∙ ap₂ (λ w e. record { words = w; entries = e }) (sym (ap (λ k. k.words) alone)) (append_assoc es here.entries rest.entries ∙ ap (λ e. es ++ e) (sym (ap (λ k. k.entries) alone)))
 
 -- ---- as a call's steps take them: one appearance, none, and one behind the other
-module _ (ws list : List ℕ) (count : ℕ) (a : Appearance) (last : Last) (which : ℕ) (ws' : List ℕ)
+module _ (ws list : List ℕ) (count : ℕ) (a : Appearance) (last : Last) (which : Option Break) (ws' : List ℕ)
     (kept : last ≡ last_in ws a.sid) (said : which ≡ said_of last a.time a.lock) (left : ws' ≡ put (last_at a.sid) (1 ∷ a.time ∷ a.lock ∷ []) ws) where
   entry_is : entry_at ws a ≡ entry_for a which
   entry_is = ap (entry_for a) (ap (λ l. said_of l a.time a.lock) (sym kept) ∙ sym said)
 
-  pub takes_nothing : which ≡ 0 → Takes ws list count (a ∷ []) count ws' list
+  pub takes_nothing : which ≡ None → Takes ws list count (a ∷ []) count ws' list
   unfolding after_all put_last numbers_of
   takes_nothing e =
-      let none : entry_at ws a ≡ [] = entry_is ∙ rw (eq-eqb which 0 e) in
+      let none : entry_at ws a ≡ [] = entry_is ∙ ap (entry_for a) e in
       record { words = left; counted = rw none (sym (add-zero count)); listed = rw none (sym (put_none (3 * count) list)) }
 
-  pub takes_break : (list' : List ℕ) → (which ≡ 0 → ⊥) → list' ≡ put (3 * count) (a.sid ∷ a.time ∷ which ∷ []) list → Takes ws list count (a ∷ []) (count + 1) ws' list'
+  pub takes_break : (list' : List ℕ) (b : Break) → which ≡ Some b → list' ≡ put (3 * count) (a.sid ∷ a.time ∷ number_of b ∷ []) list → Takes ws list count (a ∷ []) (count + 1) ws' list'
   unfolding after_all put_last numbers_of
-  takes_break list' n e =
-      let one : entry_at ws a ≡ entry_of a which ∷ [] = entry_is ∙ rw (ne_eqb which 0 n) in
+  takes_break list' b s e =
+      let one : entry_at ws a ≡ entry_of a (number_of b) ∷ [] = entry_is ∙ ap (entry_for a) s in
       record { words = left; counted = rw one; listed = rw one e }
 
 pub takes_none : (ws list : List ℕ) (count : ℕ) → Takes ws list count [] count ws list
@@ -92,20 +91,25 @@ module _ {ws list ws' list' ws'' list'' : List ℕ} {count r r' : ℕ} {xs ys : 
       }
 
 -- an appearance brings one entry at most
-few : (a : Appearance) (which : ℕ) → length (entry_for a which) ≤ 1
-few a which = go (eqb which 0)
-  where
-    go : (b : Bool) → length (cond b [] (entry_of a which ∷ [])) ≤ 1
-    go true = omega arith
-    go false = omega arith
+few : (a : Appearance) (which : Option Break) → length (entry_for a which) ≤ 1
+few a None = omega arith
+few a (Some which) = omega arith
 
 pub takes_few : {ws list ws' list' : List ℕ} {count r : ℕ} (a : Appearance) → Takes ws list count (a ∷ []) r ws' list' → r ≤ count + 1
 unfolding after_all
 takes_few {ws} a t = omega (arith, t.counted, few a (said_of (last_in ws a.sid) a.time a.lock))
 
--- ---- the observations of a message, one more
-pub observed_next : (m : List ℕ) (f : Form) (time n k : ℕ) (a : Appearance) → length m ≡ size f n → k < n → a ≡ appears time (observation_of (part (observation_at f k) 24 m))
-    → appearances_up_to k f time n m ++ (a ∷ []) ≡ appearances_up_to (k + 1) f time n m
+-- ---- the observations of a message, one more, and all
+pub takes_one_more : {ws list ws' list' ws'' list'' : List ℕ} {r r' : ℕ} (time : ℕ) (os : List Observation) (o : Observation) → Takes ws list 0 (each (λ o. appears time o ∷ []) os) r ws' list' → Takes ws' list' r (appears time o ∷ []) r' ws'' list''
+    → Takes ws list 0 (each (λ o. appears time o ∷ []) (os ++ (o ∷ []))) r' ws'' list''
+takes_one_more time os o t u = rw (each_next (λ o. appears time o ∷ []) os o) (takes_then t u (omega arith))
+
+appearances_read : (k : ℕ) (f : Form) (time n : ℕ) (m : List ℕ) → appearances_up_to k f time n m ≡ each_read (appearance_of time) k f n m
 unfolding appearances_up_to
-observed_next m f time n k a long l e =
-    rw add-one (ap (λ r. appearances_up_to k f time n m ++ r) (ap (λ x. x ∷ []) e ∙ ap (appearance_of time) (observed_there m k f n long l _ refl)))
+appearances_read zero f time n m = refl
+appearances_read (suc k) f time n m = ap (λ r. r ++ appearance_of time (observed_as f n m k)) (appearances_read k f time n m)
+
+pub appearances_all : (c : Message) → Sized c → each (λ o. appears (header_of c.form c.bytes).time o ∷ []) (observations_of c) ≡ appearances_of c
+appearances_all c long =
+    let time = (header_of c.form c.bytes).time in
+    sym (appearances_read c.count c.form time c.count c.bytes ∙ each_first (appearance_of time) c.form c.count c.bytes long c.count (omega arith))

@@ -1,22 +1,21 @@
 -- The appearances of SIDs in a message, in order: of one of the new form with this TYPE; an old message and one of another TYPE have none. Definitions only.
-use Rattle.std.specs.Prelude.{ℕ, zero, suc, Bool, false, cond, List, [], ◌∷◌, ◌++◌, eqb}
+use Rattle.std.specs.Prelude.{ℕ, zero, suc, Bool, false, cond, List, [], ◌∷◌, ◌++◌, eqb, Result, Ok, Err}
 use Rattle.units.specs.Units.{count_in}
 use Rattle.macm.specs.Read.{observed_as}
 use Rattle.macm.specs.declared.Form.{Form}
 use Rattle.macm.specs.declared.Form.TheVariants.{New, Old}
 use Rattle.macm.specs.declared.Header.{Header}
 use Rattle.macm.specs.declared.Observation.{Observation}
-use Rattle.macm.specs.declared.Observed.{Observed}
-use Rattle.macm.specs.declared.Observed.TheVariants.{Refused, Read}
 use Rattle.history.specs.declared.Appearance.{Appearance}
+use Rattle.refusal.specs.declared.Refusal.{Refusal}
 
 -- an observation's: its SID and its lock count, with the time of its message
 abbrev pub appears : ℕ → Observation → Appearance
 appears time o = record { sid = o.sid; time = time; lock = count_in o.lock }
 
-abbrev pub appearance_of : ℕ → Observed → List Appearance
-appearance_of time (Refused r) = []
-appearance_of time (Read o) = appears time o ∷ []
+abbrev pub appearance_of : ℕ → Result Observation Refusal → List Appearance
+appearance_of time (Err r) = []
+appearance_of time (Ok o) = appears time o ∷ []
 
 -- of the first k of the n observations that a message m of this form and time has
 unfoldable pub appearances_up_to : ℕ → Form → ℕ → ℕ → List ℕ → List Appearance

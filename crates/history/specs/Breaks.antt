@@ -1,15 +1,21 @@
 -- What is said at an appearance, by the history's words, and what all appearances of a message leave. Definitions only.
-use Rattle.std.specs.Prelude.{ℕ, cond, List, [], ◌∷◌, ◌++◌, ltb, eqb}
+use Rattle.std.specs.Prelude.{ℕ, cond, List, [], ◌∷◌, ◌++◌, ltb, eqb, Option, Some, None}
 use Rattle.history.specs.declared.Appearance.{Appearance}
+use Rattle.history.specs.declared.Break.{Break}
+use Rattle.history.specs.declared.Break.TheVariants.{ClockBack, NewLock}
 use Rattle.history.specs.declared.Last.{Last}
 use Rattle.history.specs.Words.{last_in, put_last}
 
--- which of the two; 0 says nothing
+-- which of the two, as the list has it
 abbrev pub clock_back : ℕ
 clock_back = 1
 
 abbrev pub new_lock : ℕ
 new_lock = 2
+
+abbrev pub number_of : Break → ℕ
+number_of ClockBack = clock_back
+number_of NewLock = new_lock
 
 -- an entry is the SID, the message time and which of the two
 pub record Entry : Type 0 where
@@ -18,18 +24,19 @@ pub record Entry : Type 0 where
   pub which : ℕ
 
 -- if the time is lower than the last, clock back; else if the lock count is lower, new lock; else nothing. All are whole numbers
-abbrev pub compared : ℕ → ℕ → ℕ → ℕ → ℕ
-compared last_time last_lock time lock = cond (ltb time last_time) clock_back (cond (ltb lock last_lock) new_lock 0)
+abbrev pub compared : ℕ → ℕ → ℕ → ℕ → Option Break
+compared last_time last_lock time lock = cond (ltb time last_time) (Some ClockBack) (cond (ltb lock last_lock) (Some NewLock) None)
 
 -- of a SID that was seen before; of one that was not, nothing
-abbrev pub said_of : Last → ℕ → ℕ → ℕ
-said_of last time lock = cond (eqb last.seen 0) 0 (compared last.time last.lock time lock)
+abbrev pub said_of : Last → ℕ → ℕ → Option Break
+said_of last time lock = cond (eqb last.seen 0) None (compared last.time last.lock time lock)
 
 abbrev pub entry_of : Appearance → ℕ → Entry
 entry_of a which = record { sid = a.sid; time = a.time; which = which }
 
-abbrev pub entry_for : Appearance → ℕ → List Entry
-entry_for a which = cond (eqb which 0) [] (entry_of a which ∷ [])
+abbrev pub entry_for : Appearance → Option Break → List Entry
+entry_for a None = []
+entry_for a (Some which) = entry_of a (number_of which) ∷ []
 
 -- the numbers of a list: three for each entry
 unfoldable pub numbers_of : List Entry → List ℕ

@@ -1,18 +1,16 @@
 // Where lock broke: the messages of a recording go in one a call, and of those of one TYPE the breaks come out. A history is lent words: TYPE, then for
 // each SID whether it was seen, its last time and its last lock count. The list is lent too, three numbers for each break. A refusal changes neither.
+// C lends the two apart at each call, and so no struct holds both.
 #![tactic(auto)]
 
 ghost use Rattle.std.specs.Prelude.{◌≡◌, [], ◌∷◌, ◌+◌, ◌*◌, ◌≤◌, length};
-ghost use Rattle.octets.specs.Parts.{put, part};
-ghost use Rattle.macm.specs.Form.{size};
-ghost use Rattle.macm.specs.Observation.{observation_of};
 ghost use Rattle.history.specs.Words.{history_words, last_from, fresh_words};
-ghost use Rattle.history.specs.Appearances.{appears, appearances_up_to, is_of};
-ghost use Rattle.history.specs.Breaks.{said_of};
-ghost use Rattle.history.specs.Calls.{list_numbers, Leaves, call_by, next_call, claimed_call};
-ghost use Rattle.history.specs.Steps.{Takes};
+ghost use Rattle.history.specs.Appearances.{is_of};
+ghost use Rattle.history.specs.Breaks.{number_of, said_of};
+ghost use Rattle.history.specs.Calls.{list_numbers, Leaves, next_call, claimed_call};
+ghost use Rattle.history.specs.Steps.{Takes, appearances_of, call_of};
 
-use macm::{Form, Head, Header};
+use macm::{Claimed, Form};
 use refusal::Refusal;
 
 // The words of a history, and the numbers of a list that has room for the breaks of every message.
@@ -20,10 +18,20 @@ pub const WORDS: usize = 769;
 
 pub const NUMBERS: usize = 765;
 
-// Which of the two breaks, as the list has it; 0 is none.
-pub const CLOCK_BACK: u64 = 1;
+// Which of the two breaks, by its number in the list.
+#[derive(Clone, Copy, Debug, PartialEq, Eq)]
+pub enum Break {
+    ClockBack = 1,
+    NewLock = 2,
+}
 
-pub const NEW_LOCK: u64 = 2;
+impl Break {
+    fn number(self) -> u64
+        ensures { result ≡ number_of self }
+    {
+        self as u64
+    }
+}
 
 // An observation as a history takes it: its SID, the time of its message and its lock count.
 #[derive(Clone, Copy)]
@@ -41,13 +49,6 @@ pub struct Last {
     pub lock: u64,
 }
 
-// What a call answers: a refusal, or how many breaks stand at the front of the list.
-#[derive(Clone, Copy)]
-pub enum Breaks {
-    Refused(Refusal),
-    Listed(usize),
-}
-
 // ---- the words
 
 // A history in which nothing was seen, for one TYPE.
@@ -58,44 +59,44 @@ pub fn fresh(history: &mut [u64; WORDS], signal: u8)
     history[0] = signal as u64;
 }
 
-// What is kept in the three words from `at` on.
-fn last_of(history: &[u64], at: usize) -> Last
-    requires { at + 3 ≤ length history.now }
-    ensures { result ≡ last_from history.now at }
+// What is kept in the three words of a SID.
+fn last_of(row: &[u64]) -> Last
+    requires { 3 ≤ length row.now }
+    ensures { result ≡ last_from row.now 0 }
 {
     Last {
-        seen: history[at],
-        time: history[at + 1],
-        lock: history[at + 2],
+        seen: row[0],
+        time: row[1],
+        lock: row[2],
     }
 }
 
-// Three numbers in place of those from `at` on.
-fn put_three(words: &mut [u64], at: usize, first: u64, second: u64, third: u64)
-    requires { at + 3 ≤ length words.old }
-    ensures { words.new ≡ put at (first ∷ second ∷ third ∷ []) words.old }
+// Three numbers in place of a row's. One by one: a copy of a slice first asks whether the two overlap, and an observation takes a third longer.
+fn put_three(row: &mut [u64], first: u64, second: u64, third: u64)
+    requires { length row.old ≡ 3 }
+    ensures { row.new ≡ first ∷ second ∷ third ∷ [] }
 {
-    words[at] = first;
-    words[at + 1] = second;
-    words[at + 2] = third;
+    row[0] = first;
+    row[1] = second;
+    row[2] = third;
 }
 
 // ---- one appearance
 
 // What is said of a SID that appears with this time and lock count.
-fn said_of(last: Last, time: u64, lock: u64) -> u64
+fn said_of(last: Last, time: u64, lock: u64) -> Option<Break>
     ensures { result ≡ said_of last time lock }
 {
     if last.seen == 0 {
-        return 0;
+        return None;
     }
     if time < last.time {
-        return CLOCK_BACK;
+        return Some(Break::ClockBack);
     }
     if lock < last.lock {
-        return NEW_LOCK;
+        return Some(Break::NewLock);
     }
-    0
+    None
 }
 
 // One appearance, where so many breaks are listed: the SID's last pair is replaced, whatever is said of it.
@@ -107,50 +108,32 @@ fn appear(history: &mut [u64], list: &mut [u64], count: usize, appearance: Appea
     let time = appearance.time as u64;
     let lock = appearance.lock as u64;
     let at = 1 + 3 * sid as usize;
-    let last = last_of(history, at);
-    put_three(history, at, 1, time, lock);
-    let which = said_of(last, time, lock);
-    if which == 0 {
+    let row = &mut history[at..at + 3];
+    let last = last_of(row);
+    put_three(row, 1, time, lock);
+    let Some(which) = said_of(last, time, lock) else {
         return count;
-    }
-    put_three(list, 3 * count, sid as u64, time, which);
+    };
+    let end = 3 * count;
+    put_three(&mut list[end..end + 3], sid as u64, time, which.number());
     count + 1
 }
 
 // ---- one message
 
-// The appearance in the observation whose 24 bytes begin at a place: no more of it is read.
-fn appearance_at(message: &[u8], at: usize, time: u32) -> Appearance
-    requires { at + 24 ≤ length message.now }
-    ensures { result ≡ appears time (observation_of (part at 24 message.now)) }
-{
-    let first = at + 20;
-    let end = at + 24;
-    let lock = octets::number_of(&message[first..end]) as u32;
-    Appearance {
-        sid: message[at],
-        time,
-        lock,
-    }
-}
-
 // All observations of a message, in order.
-fn appear_all(
-    history: &mut [u64],
-    list: &mut [u64],
-    header: Header,
-    count: u8,
-    message: &[u8],
-) -> usize
-    requires { (length history.old ≡ history_words) × (list_numbers ≤ length list.old) × (length message.now ≡ size header.form count) }
-    ensures { Takes history.old list.old 0 (appearances_up_to count header.form header.time count message.now) result history.new list.new }
+fn appear_all(history: &mut [u64], list: &mut [u64], claimed: &Claimed) -> usize
+    requires { (length history.old ≡ history_words) × (list_numbers ≤ length list.old) }
+    ensures { Takes history.old list.old 0 (appearances_of claimed.now) result history.new list.new }
 {
-    let form = header.form;
-    let time = header.time;
+    let time = claimed.header().time;
     let mut listed = 0;
-    for index in 0..count as usize {
-        let at = macm::count_at(form) + 9 + 24 * index;
-        let appearance = appearance_at(message, at, time);
+    for observation in claimed.observations() {
+        let appearance = Appearance {
+            sid: observation.sid,
+            time,
+            lock: observation.lock.count(),
+        };
         listed = appear(history, list, listed, appearance);
     }
     listed
@@ -161,52 +144,48 @@ fn is_of(signal: u64, form: Form) -> bool
     ensures { result ≡ is_of signal form }
 {
     match form {
-        Form::New {
-            signal: other,
-            tfom: _,
-        } => other as u64 == signal,
-        Form::Old { version: _ } => false,
+        Form::New { signal: other, .. } => other as u64 == signal,
+        Form::Old { .. } => false,
     }
 }
 
-// Of a message whose header was read: the list is looked at before TYPE.
-#[tactic(auto, using(crate::proofs::CallSteps::call_without_room, crate::proofs::CallSteps::call_passes_over))]
-fn list_breaks(
-    history: &mut [u64],
-    list: &mut [u64],
-    header: Header,
-    count: u8,
-    message: &[u8],
-) -> Breaks
-    requires { (length history.old ≡ history_words) × (length message.now ≡ size header.form count) }
-    ensures { Leaves (call_by (Head.Read header count) message.now history.old list.old) result history.new list.new }
+// The breaks of a message that is checked, or claimed: the list is looked at before TYPE.
+#[tactic(auto, using(crate::proofs::CallSteps::call_without_room, crate::proofs::CallSteps::call_passes_over), unfolding(macm::specs::Read::header_of))]
+fn list_breaks(history: &mut [u64], list: &mut [u64], claimed: &Claimed) -> Result<usize, Refusal>
+    requires { length history.old ≡ history_words }
+    ensures { Leaves (call_of claimed.now history.old list.old) result history.new list.new }
 {
     if list.len() < NUMBERS {
-        return Breaks::Refused(Refusal::SmallBuffer);
+        return Err(Refusal::SmallBuffer);
     }
-    let form = header.form;
-    if is_of(history[0], form) {
-        return Breaks::Listed(appear_all(history, list, header, count, message));
+    if !is_of(history[0], claimed.form()) {
+        return Ok(0);
     }
-    Breaks::Listed(0)
+    Ok(appear_all(history, list, claimed))
 }
 
-// The breaks of exactly a message's bytes (1 to 4, then 8).
-pub fn next_breaks(message: &[u8], history: &mut [u64; WORDS], list: &mut [u64]) -> Breaks
+// The breaks of exactly a message's bytes: how many stand at the front of the list (1 to 4, then 8).
+#[tactic(auto, unfolding(crate::specs::Calls::call_by, macm::specs::Read::head_of, macm::specs::Read::head_by, macm::specs::Claimed::claimed_by))]
+pub fn next_breaks(
+    message: &[u8],
+    history: &mut [u64; WORDS],
+    list: &mut [u64],
+) -> Result<usize, Refusal>
     ensures { Leaves (next_call message.now history.old list.old) result history.new list.new }
 {
-    match macm::read_header(message) {
-        Head::Refused(refusal) => Breaks::Refused(refusal),
-        Head::Read(header, count) => list_breaks(history, list, header, count, message),
-    }
+    let claimed = Claimed::checked(message)?;
+    list_breaks(history, list, &claimed)
 }
 
 // The same of bytes that the division gave as a message (1 to 3, then 8): their checksum is not run again.
-pub fn claimed_breaks(message: &[u8], history: &mut [u64; WORDS], list: &mut [u64]) -> Breaks
+#[tactic(auto, unfolding(crate::specs::Calls::call_by, macm::specs::Read::claimed_head, macm::specs::Read::head_by, macm::specs::Claimed::claimed_by))]
+pub fn claimed_breaks(
+    message: &[u8],
+    history: &mut [u64; WORDS],
+    list: &mut [u64],
+) -> Result<usize, Refusal>
     ensures { Leaves (claimed_call message.now history.old list.old) result history.new list.new }
 {
-    match macm::claimed_header(message) {
-        Head::Refused(refusal) => Breaks::Refused(refusal),
-        Head::Read(header, count) => list_breaks(history, list, header, count, message),
-    }
+    let claimed = Claimed::of(message)?;
+    list_breaks(history, list, &claimed)
 }

@@ -1,5 +1,4 @@
 -- Each public contract of `lines` determines its answer and every byte or number that is lent. Assumes nothing.
-use mathlib.Core.Path.{refl}
 use Rattle.owed.specs.Determined.{Determined}
 use Rattle.owed.proofs.Same.{both}
 use Rattle.lines.specs.contracts as contracts
@@ -15,5 +14,4 @@ pub put_rows_determined : Determined contracts.put_rows.ended lines.put_rows.Rea
 put_rows_determined κs a z z' w w' p q = search both
 
 pub put_breaks_determined : Determined contracts.put_breaks.ended lines.put_breaks.Reads.Learnt
-put_breaks_determined κs a z z' w w' p q =
-    (both p.text.next q.text.next, (both p.text.bytes q.text.bytes, (refl, (refl, (refl, (both p.words q.words, (both p.listed q.listed, tt)))))))
+put_breaks_determined κs a z z' w w' p q = search both

@@ -1,13 +1,12 @@
 -- The listing's lines, as 01 has them. Definitions only.
-use Rattle.std.specs.Prelude.{ℕ, List, [], ◌++◌, length}
+use Rattle.std.specs.Prelude.{ℕ, List, [], ◌++◌, length, Result, Ok, Err}
 use Rattle.text.specs.Word.{word}
 use Rattle.text.specs.Columns.{space, newline, number_text, count_text}
 use Rattle.macm.specs.Read.{claimed_head}
 use Rattle.macm.specs.declared.Form.{Form}
 use Rattle.macm.specs.declared.Form.TheVariants.{New, Old}
 use Rattle.macm.specs.declared.Header.{Header}
-use Rattle.macm.specs.declared.Head.{Head}
-use Rattle.macm.specs.declared.Head.TheVariants.{Refused, Read}
+use Rattle.refusal.specs.declared.Refusal.{Refusal}
 
 abbrev pub form_text : Form → List ℕ
 form_text (New signal tfom) = word "v2 "
@@ -17,9 +16,9 @@ form_text (Old version) = word "v1 "
 abbrev pub message_text : ℕ → ℕ → Header → ℕ → List ℕ
 message_text position bytes h count = number_text position space ++ (number_text bytes space ++ (form_text h.form ++ (number_text count space ++ number_text h.time newline)))
 
-abbrev pub head_line : ℕ → ℕ → Head → List ℕ
-head_line position bytes (Refused r) = []
-head_line position bytes (Read h count) = message_text position bytes h count
+abbrev pub head_line : ℕ → ℕ → Result (Header × ℕ) Refusal → List ℕ
+head_line position bytes (Err r) = []
+head_line position bytes (Ok (h, count)) = message_text position bytes h count
 
 -- the line of a message m, as its bytes claim it
 abbrev pub line_text : ℕ → List ℕ → List ℕ

@@ -1,5 +1,5 @@
 -- The rows for the people who compute the track: one an observation. Definitions only.
-use Rattle.std.specs.Prelude.{ℕ, zero, suc, List, [], ◌∷◌, ◌++◌}
+use Rattle.std.specs.Prelude.{ℕ, zero, suc, List, [], ◌∷◌, ◌++◌, Result, Ok, Err}
 use Rattle.text.specs.Word.{word}
 use Rattle.text.specs.Columns.{space, newline, number_text, count_text}
 use Rattle.text.specs.Digits.{digits, metres, hertz}
@@ -10,15 +10,12 @@ use Rattle.macm.specs.declared.Form.{Form}
 use Rattle.macm.specs.declared.Form.TheVariants.{New, Old}
 use Rattle.macm.specs.declared.Header.{Header}
 use Rattle.macm.specs.declared.Observation.{Observation}
-use Rattle.macm.specs.declared.Head.{Head}
-use Rattle.macm.specs.declared.Head.TheVariants.{Refused, Read as Headed}
-use Rattle.macm.specs.declared.Observed.{Observed}
-use Rattle.macm.specs.declared.Observed.TheVariants.{Refused as NotObserved, Read}
 use Rattle.track.specs.declared.Phase.{Phase}
 use Rattle.track.specs.declared.Phase.TheVariants.{Withheld, NotFinite, PolarityUnknown, NotCorrected, DueHalf, PolarityUndefined}
 use Rattle.track.specs.Range.{range_of}
 use Rattle.track.specs.Shown.{phase_of}
 use Rattle.lines.specs.Listing.{form_text}
+use Rattle.refusal.specs.declared.Refusal.{Refusal}
 
 -- the form, and TYPE, which the old form does not have
 abbrev pub signal_text : Form → List ℕ
@@ -60,18 +57,18 @@ abbrev pub observation_text : Form → Observation → List ℕ
 observation_text f o = range_text o ++ (shown_text f o ++ (hertz o.rate ++ ((space ∷ []) ++ number_text (millis_in (lock_millis o.lock)) newline)))
 
 -- behind the columns of its message
-abbrev pub row_text : List ℕ → Form → Observed → List ℕ
-row_text head f (NotObserved r) = []
-row_text head f (Read o) = head ++ observation_text f o
+abbrev pub row_text : List ℕ → Form → Result Observation Refusal → List ℕ
+row_text head f (Err r) = []
+row_text head f (Ok o) = head ++ observation_text f o
 
 -- the rows of the first k of the n observations that a message m of a form has
 unfoldable pub rows_up_to : ℕ → List ℕ → Form → ℕ → List ℕ → List ℕ
 rows_up_to zero head f n m = []
 rows_up_to (suc k) head f n m = rows_up_to k head f n m ++ row_text head f (observed_as f n m k)
 
-abbrev pub head_rows : ℕ → Head → List ℕ → List ℕ
-head_rows position (Refused r) m = []
-head_rows position (Headed h n) m = rows_up_to n (head_text position h) h.form n m
+abbrev pub head_rows : ℕ → Result (Header × ℕ) Refusal → List ℕ → List ℕ
+head_rows position (Err r) m = []
+head_rows position (Ok (h, n)) m = rows_up_to n (head_text position h) h.form n m
 
 -- the rows of a message m, as its bytes claim it
 abbrev pub rows_text : ℕ → List ℕ → List ℕ

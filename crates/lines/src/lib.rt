@@ -1,240 +1,223 @@
-// The lines that the programs print, put into a lent buffer as `text` puts numbers: of a message in the listing, of an observation for the people who
-// compute the track, of a break of lock, and the listing's last.
+// The lines that the programs print, put into a `Text`: of a message in the listing, of an observation for the people who compute the track, of a break
+// of lock, and the listing's last.
 #![tactic(auto)]
 
-ghost use Rattle.std.specs.Prelude.{◌++◌, ◌*◌, ◌≤◌, length};
-ghost use Rattle.text.specs.Put.{Puts};
+ghost use Rattle.std.specs.Prelude.{◌≡◌, ◌++◌, ◌*◌, ◌≤◌, length};
+ghost use Rattle.text.specs.Put.{appended};
 ghost use Rattle.lines.specs.Listing.{form_text, message_text, line_text, end_text};
 ghost use Rattle.history.specs.Calls.{claimed_call};
 ghost use Rattle.lines.specs.Breaks.{which_text, break_text, breaks_up_to, Prints};
-ghost use Rattle.lines.specs.Rows.{head_text, range_text, phase_text, polarity_text, shown_text, observation_text, row_text, rows_up_to, rows_text};
+ghost use Rattle.lines.specs.Rows.{head_text, range_text, phase_text, polarity_text, shown_text, observation_text, rows_up_to, rows_text};
 
-use history::Breaks;
-use macm::{Form, Head, Header, Observation, Observed};
+use history::Break;
+use macm::{Claimed, Form, Header, Observation};
+use text::Text;
 use track::Phase;
 
 // ---- the listing
 
-fn put_form(out: &mut [u8], at: usize, form: Form) -> usize
-    ensures { Puts out.old at (form_text form) result out.new }
+fn put_form(text: &mut Text, form: Form)
+    ensures { text.new ≡ appended (form_text form) text.old }
 {
     match form {
-        Form::New { signal: _, tfom: _ } => text::put_all(out, at, b"v2 "),
-        Form::Old { version: _ } => text::put_all(out, at, b"v1 "),
+        Form::New { signal: _, tfom: _ } => text.put_all(b"v2 "),
+        Form::Old { version: _ } => text.put_all(b"v1 "),
     }
 }
 
 // The columns of a message's line.
-fn put_read(out: &mut [u8], at: usize, position: u64, bytes: u16, head: Header, count: u8) -> usize
-    ensures { Puts out.old at (message_text position bytes head count) result out.new }
+#[tactic(auto, using(text::proofs::PutLaws::appended_twice))]
+fn put_read(text: &mut Text, position: u64, bytes: u16, head: Header, count: u8)
+    ensures { text.new ≡ appended (message_text position bytes head count) text.old }
 {
-    let form = head.form;
-    let next = text::put_number(out, at, position, b' ');
-    let next = text::put_short(out, next, bytes, b' ');
-    let next = put_form(out, next, form);
-    let next = text::put_short(out, next, count as u16, b' ');
-    text::put_long(out, next, head.time, b'\n')
+    text.put_number(position, b' ');
+    text.put_short(bytes, b' ');
+    put_form(text, head.form);
+    text.put_short(count as u16, b' ');
+    text.put_long(head.time, b'\n');
 }
 
 // The line of a message at a position, as its bytes claim it: none where they claim no message. The checksum was run in the division.
-pub fn put_line(out: &mut [u8], at: usize, position: u64, message: &[u8]) -> usize
-    ensures { Puts out.old at (line_text position message.now) result out.new }
+#[tactic(auto, using(text::proofs::PutLaws::appended_none), unfolding(macm::specs::Read::claimed_head, macm::specs::Read::head_by, macm::specs::Claimed::claimed_by))]
+pub fn put_line(text: &mut Text, position: u64, message: &[u8])
+    ensures { text.new ≡ appended (line_text position message.now) text.old }
 {
-    match macm::claimed_header(message) {
-        Head::Refused(_) => at,
-        Head::Read(header, count) => {
-            put_read(out, at, position, message.len() as u16, header, count)
-        }
-    }
+    let Ok(claimed) = Claimed::of(message) else {
+        return;
+    };
+    put_read(
+        text,
+        position,
+        message.len() as u16,
+        claimed.header(),
+        claimed.count(),
+    );
 }
 
 // The last line: all bytes, all messages, all gap bytes.
-pub fn put_end(out: &mut [u8], at: usize, bytes: u64, messages: u64, gap: u64) -> usize
-    ensures { Puts out.old at (end_text bytes messages gap) result out.new }
+#[tactic(auto, using(text::proofs::PutLaws::appended_twice))]
+pub fn put_end(text: &mut Text, bytes: u64, messages: u64, gap: u64)
+    ensures { text.new ≡ appended (end_text bytes messages gap) text.old }
 {
-    let next = text::put_count(out, at, b"end ", bytes, b' ');
-    let next = text::put_count(out, next, b"messages ", messages, b' ');
-    text::put_count(out, next, b"gap ", gap, b'\n')
+    text.put_count(b"end ", bytes, b' ');
+    text.put_count(b"messages ", messages, b' ');
+    text.put_count(b"gap ", gap, b'\n');
 }
 
 // ---- an observation's row
 
 // The message's position, its time, its form and TYPE, which the old form does not have.
-fn put_head(out: &mut [u8], at: usize, position: u64, header: Header) -> usize
-    ensures { Puts out.old at (head_text position header) result out.new }
+#[tactic(auto, using(text::proofs::PutLaws::appended_twice))]
+fn put_head(text: &mut Text, position: u64, header: Header)
+    ensures { text.new ≡ appended (head_text position header) text.old }
 {
-    let form = header.form;
-    let next = text::put_number(out, at, position, b' ');
-    let next = text::put_number(out, next, header.time as u64, b' ');
-    match form {
-        Form::New { signal, tfom: _ } => text::put_count(out, next, b"v2 ", signal as u64, b' '),
-        Form::Old { version: _ } => text::put_all(out, next, b"v1 - "),
+    text.put_number(position, b' ');
+    text.put_number(header.time as u64, b' ');
+    match header.form {
+        Form::New { signal, tfom: _ } => text.put_count(b"v2 ", signal as u64, b' '),
+        Form::Old { version: _ } => text.put_all(b"v1 - "),
     }
 }
 
 // SID, C/N0, CONDITION and the range in metres.
-fn put_range(out: &mut [u8], at: usize, observation: Observation) -> usize
-    ensures { Puts out.old at (range_text observation) result out.new }
+#[tactic(auto, using(text::proofs::PutLaws::appended_twice))]
+fn put_range(text: &mut Text, observation: Observation)
+    ensures { text.new ≡ appended (range_text observation) text.old }
 {
-    let next = text::put_number(out, at, observation.sid as u64, b' ');
-    let next = text::put_number(out, next, observation.cn0 as u64, b' ');
-    let next = text::put_hex(out, next, observation.condition as u64, 4);
-    let next = text::put(out, next, b' ');
-    let next = text::put_metres(out, next, track::range_of(observation.pseudorange));
-    text::put(out, next, b' ')
+    text.put_number(observation.sid as u64, b' ');
+    text.put_number(observation.cn0 as u64, b' ');
+    text.put_hex(observation.condition as u64, 4);
+    text.put(b' ');
+    text.put_metres(track::range_of(observation.pseudorange));
+    text.put(b' ');
 }
 
 // The phase as it may be shown: of a double that may be, its bits.
-fn put_phase(out: &mut [u8], at: usize, phase: Phase, bits: u64) -> usize
-    ensures { Puts out.old at (phase_text phase bits) result out.new }
+fn put_phase(text: &mut Text, phase: Phase, bits: u64)
+    ensures { text.new ≡ appended (phase_text phase bits) text.old }
 {
     match phase {
-        Phase::Withheld => text::put_all(out, at, b"withheld"),
-        Phase::NotFinite => text::put_all(out, at, b"nonfinite"),
+        Phase::Withheld => text.put_all(b"withheld"),
+        Phase::NotFinite => text.put_all(b"nonfinite"),
         Phase::PolarityUnknown(_)
         | Phase::NotCorrected(_)
         | Phase::DueHalf(_)
-        | Phase::PolarityUndefined(_, _) => text::put_cycles(out, at, bits),
+        | Phase::PolarityUndefined(_, _) => text.put_cycles(bits),
     }
 }
 
 // The word for the phase's polarity: none stands beside one that has no cycles.
-fn put_polarity(out: &mut [u8], at: usize, phase: Phase) -> usize
-    ensures { Puts out.old at (polarity_text phase) result out.new }
+fn put_polarity(text: &mut Text, phase: Phase)
+    ensures { text.new ≡ appended (polarity_text phase) text.old }
 {
     match phase {
-        Phase::Withheld | Phase::NotFinite => text::put_all(out, at, b"- "),
-        Phase::PolarityUnknown(_) => text::put_all(out, at, b"unknown "),
-        Phase::NotCorrected(_) => text::put_all(out, at, b"uncorrected "),
-        Phase::DueHalf(_) => text::put_all(out, at, b"half "),
-        Phase::PolarityUndefined(code, _) => {
-            text::put_count(out, at, b"undefined", code as u64, b' ')
-        }
+        Phase::Withheld | Phase::NotFinite => text.put_all(b"- "),
+        Phase::PolarityUnknown(_) => text.put_all(b"unknown "),
+        Phase::NotCorrected(_) => text.put_all(b"uncorrected "),
+        Phase::DueHalf(_) => text.put_all(b"half "),
+        Phase::PolarityUndefined(code, _) => text.put_count(b"undefined", code as u64, b' '),
     }
 }
 
 // The phase in cycles, PHASE's bits, and the polarity, which is the phase's own.
-fn put_shown(out: &mut [u8], at: usize, form: Form, observation: Observation) -> usize
-    ensures { Puts out.old at (shown_text form observation) result out.new }
+#[tactic(auto, using(text::proofs::PutLaws::appended_twice))]
+fn put_shown(text: &mut Text, form: Form, observation: Observation)
+    ensures { text.new ≡ appended (shown_text form observation) text.old }
 {
-    let bits = observation.phase;
     let phase = track::phase_of(form, observation);
-    let next = put_phase(out, at, phase, bits);
-    let next = text::put(out, next, b' ');
-    let next = text::put_hex(out, next, bits, 16);
-    let next = text::put(out, next, b' ');
-    put_polarity(out, next, phase)
+    put_phase(text, phase, observation.phase);
+    text.put(b' ');
+    text.put_hex(observation.phase, 16);
+    text.put(b' ');
+    put_polarity(text, phase);
 }
 
 // What stands at the front of all rows of a message, then the observation's own columns: the rate in hertz and the time since lock in milliseconds end
 // the row.
-fn put_row(out: &mut [u8], at: usize, head: &[u8], form: Form, observation: Observation) -> usize
-    ensures { Puts out.old at (head.now ++ observation_text form observation) result out.new }
+#[tactic(auto, using(text::proofs::PutLaws::appended_twice))]
+fn put_row(text: &mut Text, head: &[u8], form: Form, observation: Observation)
+    ensures { text.new ≡ appended (head.now ++ observation_text form observation) text.old }
 {
-    let lock = observation.lock;
-    let next = text::put_all(out, at, head);
-    let next = put_range(out, next, observation);
-    let next = put_shown(out, next, form, observation);
-    let next = text::put_hertz(out, next, observation.rate);
-    let next = text::put(out, next, b' ');
-    text::put_number(out, next, units::since_lock(lock).number(), b'\n')
+    text.put_all(head);
+    put_range(text, observation);
+    put_shown(text, form, observation);
+    text.put_hertz(observation.rate);
+    text.put(b' ');
+    text.put_number(units::since_lock(observation.lock).number(), b'\n');
 }
 
-// The row of what was read: none of a refusal.
-fn put_observed(out: &mut [u8], at: usize, head: &[u8], form: Form, observed: Observed) -> usize
-    ensures { Puts out.old at (row_text head.now form observed) result out.new }
+// The rows of all observations of a message.
+#[tactic(auto, using(crate::proofs::RowSteps::rows_none, crate::proofs::RowSteps::rows_more))]
+fn put_observations(text: &mut Text, head: &[u8], claimed: &Claimed)
+    ensures { text.new ≡ appended (rows_up_to claimed.now.count head.now claimed.now.form claimed.now.count claimed.now.bytes) text.old }
 {
-    match observed {
-        Observed::Refused(_) => at,
-        Observed::Read(observation) => put_row(out, at, head, form, observation),
+    let form = claimed.form();
+    for observation in claimed.observations() {
+        put_row(text, head, form, observation);
     }
-}
-
-fn put_observations(
-    out: &mut [u8],
-    at: usize,
-    head: &[u8],
-    form: Form,
-    count: u8,
-    message: &[u8],
-) -> usize
-    ensures { Puts out.old at (rows_up_to count head.now form count message.now) result out.new }
-{
-    let mut next = at;
-    for index in 0..count as usize {
-        let observed = macm::observation_as(form, count, message, index);
-        next = put_observed(out, next, head, form, observed);
-    }
-    next
 }
 
 // The rows of all observations of the message at a position, as its bytes claim it. What is the same in all of them is put together once.
-pub fn put_rows(out: &mut [u8], at: usize, position: u64, message: &[u8]) -> usize
-    ensures { Puts out.old at (rows_text position message.now) result out.new }
+#[tactic(auto, using(text::proofs::PutLaws::appended_none, crate::proofs::Width::head_front, crate::proofs::RowSteps::rows_claimed), unfolding(macm::specs::Read::claimed_head, macm::specs::Read::head_by, macm::specs::Claimed::claimed_by))]
+pub fn put_rows(text: &mut Text, position: u64, message: &[u8])
+    ensures { text.new ≡ appended (rows_text position message.now) text.old }
 {
-    let Head::Read(header, count) = macm::claimed_header(message) else {
-        return at;
+    let Ok(claimed) = Claimed::of(message) else {
+        return;
     };
-    let form = header.form;
-    let mut head = [0u8; 80];
-    let width = put_head(&mut head, 0, position, header);
-    put_observations(out, at, text::front(&head, width), form, count, message)
+    let mut space = [0u8; 80];
+    let mut head = Text::new(&mut space);
+    put_head(&mut head, position, claimed.header());
+    put_observations(text, head.written(), &claimed);
 }
 
 // ---- the breaks of lock
 
-fn put_which(out: &mut [u8], at: usize, which: u64) -> usize
-    ensures { Puts out.old at (which_text which) result out.new }
+// By its number, as the lent list has it: as a `Break` it would need a case for numbers that never stand there.
+fn put_which(text: &mut Text, which: u64)
+    ensures { text.new ≡ appended (which_text which) text.old }
 {
-    if which == history::CLOCK_BACK {
-        return text::put_all(out, at, b"clock-back\n");
+    if which == Break::ClockBack as u64 {
+        text.put_all(b"clock-back\n");
+    } else {
+        text.put_all(b"new-lock\n");
     }
-    text::put_all(out, at, b"new-lock\n")
 }
 
 // The line of a break in the message at a position.
-fn put_break(out: &mut [u8], at: usize, position: u64, sid: u64, time: u64, which: u64) -> usize
-    ensures { Puts out.old at (break_text position sid time which) result out.new }
+#[tactic(auto, using(text::proofs::PutLaws::appended_twice))]
+fn put_break(text: &mut Text, position: u64, sid: u64, time: u64, which: u64)
+    ensures { text.new ≡ appended (break_text position sid time which) text.old }
 {
-    let next = text::put_number(out, at, position, b' ');
-    let next = text::put_number(out, next, sid, b' ');
-    let next = text::put_number(out, next, time, b' ');
-    put_which(out, next, which)
+    text.put_number(position, b' ');
+    text.put_number(sid, b' ');
+    text.put_number(time, b' ');
+    put_which(text, which);
 }
 
 // The lines of the first breaks of a list.
-fn put_listed(out: &mut [u8], at: usize, position: u64, list: &[u64], count: usize) -> usize
+fn put_listed(text: &mut Text, position: u64, list: &[u64], count: usize)
     requires { 3 * count ≤ length list.now }
-    ensures { Puts out.old at (breaks_up_to count position list.now) result out.new }
+    ensures { text.new ≡ appended (breaks_up_to count position list.now) text.old }
 {
-    let mut next = at;
-    for index in 0..count {
-        let first = 3 * index;
-        next = put_break(
-            out,
-            next,
-            position,
-            list[first],
-            list[first + 1],
-            list[first + 2],
-        );
+    for row in list[..3 * count].chunks_exact(3) {
+        put_break(text, position, row[0], row[1], row[2]);
     }
-    next
 }
 
 // The lines of the breaks in the message at a position, as its bytes claim it, after those that the history has taken.
+#[tactic(auto, using(text::proofs::PutLaws::appended_none))]
 pub fn put_breaks(
-    out: &mut [u8],
-    at: usize,
+    text: &mut Text,
     position: u64,
     message: &[u8],
     history: &mut [u64; history::WORDS],
     list: &mut [u64],
-) -> usize
-    ensures { Prints out.old at position (claimed_call message.now history.old list.old) result out.new history.new list.new }
+)
+    ensures { Prints text.old position (claimed_call message.now history.old list.old) text.new history.new list.new }
 {
-    match history::claimed_breaks(message, history, list) {
-        Breaks::Refused(_) => at,
-        Breaks::Listed(count) => put_listed(out, at, position, list, count),
-    }
+    let Ok(count) = history::claimed_breaks(message, history, list) else {
+        return;
+    };
+    put_listed(text, position, list, count);
 }

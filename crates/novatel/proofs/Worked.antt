@@ -1,4 +1,5 @@
 -- 003's record, read and written, each field at its place; its deviations and its rolls; and rolls that doubles get wrong. Assumes nothing.
+use Rattle.std.specs.Prelude.{Ok}
 use Prim.Native.Nat.{ℕ}
 use mathlib.Core.Path.{◌≡◌, refl}
 use mathlib.Core.List.{List, [], ◌∷◌}
@@ -7,7 +8,6 @@ use Rattle.bits.specs.Little.{little, little_bytes}
 use Rattle.bits.specs.Fields.{field_of}
 use Rattle.bits.specs.Joined.{joined}
 use Rattle.novatel.specs.declared.Record.{Record}
-use Rattle.novatel.specs.declared.Correction.TheVariants.{Corrected}
 use Rattle.novatel.specs.Record.{record_of, record_bytes, fields_of}
 use Rattle.novatel.specs.Deviations.{range_deviation, adr_deviation}
 use Rattle.novatel.specs.Entries.{says_gps, correction_in, correction_of}
@@ -43,7 +43,7 @@ written_places = refl
 pub deviations_of_it : (range_deviation 0 ≡ 50) × (adr_deviation 4 ≡ 5)
 deviations_of_it = (refl, refl)
 
-pub corrected_places : correction_of published ≡ Corrected (pos 16) (negsuc 34462008790)
+pub corrected_places : correction_of published ≡ Ok (record { rolls = pos 16; adr = negsuc 34462008790 })
 unfolding correction_of correction_in says_gps record_of field_of little rolls_of corrected_of
 corrected_places = refl
 

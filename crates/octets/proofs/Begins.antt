@@ -5,9 +5,10 @@ use mathlib.Core.Bool.{Bool, true, false, cond}
 use mathlib.Core.List.{List, [], ◌∷◌}
 use native.Mathlib.Omega.{arith}
 use lib.ListN.{length, get_or, take}
-use lib.Seq.{take-take, length-take-le}
-use lib.Dec.{leb, eqb}
-use borrow.Author.Tests.{leb-true, leb-false, eqb-true, eq-eqb}
+use lib.Seq.{take-take}
+use lib.Dec.{eqb}
+use Rattle.std.specs.List.{starts_with}
+use borrow.Author.Tests.{eqb-true, eqb-false, eq-eqb, ne_eqb}
 use Rattle.octets.specs.declared.Fit.{Fit}
 use Rattle.octets.specs.declared.Fit.TheVariants.{Whole, Part, Bad}
 use Rattle.octets.specs.Begins.{common, fit, is_whole, begins}
@@ -91,34 +92,13 @@ module _ (t s : List ℕ) where
       go Part h m = refl
       go Bad h m = absurd (omega (arith, h.1))
 
--- ---- with so much of a string bytes begin exactly if that much of it is common
-clash : true ≡ false → ⊥
-clash e = let z : ◌≡◌ {A = ℕ} 0 1 = cc in omega arith
-
-module _ (t s : List ℕ) (n : ℕ) (l : n ≤ length t) where
-  long : length (take n t) ≡ n
-  long = length-take-le n t l
-
-  more : n ≤ common t s → n ≤ common (take n t) s
-  more m =
-      take_common (take n t) s n (omega (arith, (common_within t s).1)) (omega (arith, long))
-      (take_fewer n (common t s) s t m (common_take t s) ∙ sym (take-take n n t (omega arith)))
-
-  pub begins_so : begins (take n t) s ≡ true → n ≤ common t s
-  begins_so e = go (fit (take n t) s) (fit_common (take n t) s) e
-    where
-      go : (f : Fit) → Fits (take n t) s f → is_whole f ≡ true → n ≤ common t s
-      go Whole h e =
-          let z : common (take n t) s ≡ n = h ∙ long in
-          take_common t s n (omega (arith, (common_within (take n t) s).1)) l (rw z at (common_take (take n t) s) ∙ take-take n n t (omega arith))
-      go Part h e = absurd (clash (sym e))
-      go Bad h e = absurd (clash (sym e))
-
-  pub begins_not : begins (take n t) s ≡ false → common t s < n
-  begins_not e = go (fit (take n t) s) (fit_common (take n t) s) e (leb n (common t s)) refl
-    where
-      go : (f : Fit) → Fits (take n t) s f → is_whole f ≡ false → (b : Bool) → leb n (common t s) ≡ b → common t s < n
-      go f h e false q = leb-false n (common t s) q
-      go Whole h e true q = absurd (clash e)
-      go Part h e true q = absurd (omega (arith, h.0, h.1, long, more (leb-true n (common t s) q)))
-      go Bad h e true q = absurd (omega (arith, h.0, long, more (leb-true n (common t s) q)))
+-- std's `starts_with`
+pub begins_is : (t s : List ℕ) → starts_with eqb s t ≡ begins t s
+unfolding fit
+begins_is [] s = refl
+begins_is (t ∷ ts) [] = refl
+begins_is (t ∷ ts) (x ∷ xs) = go (eqb x t) refl (begins_is ts xs)
+  where
+    go : (b : Bool) → eqb x t ≡ b → starts_with eqb xs ts ≡ begins ts xs → starts_with eqb (x ∷ xs) (t ∷ ts) ≡ is_whole (cond b (fit ts xs) Bad)
+    go true e h = rw (eq-eqb t x (sym (eqb-true x t e))) h
+    go false e h = rw (ne_eqb t x (λ q. eqb-false x t e (sym q)))

@@ -30,15 +30,3 @@ raw_in_determined κs a z z' w w' p q = search both
 
 pub holds_signed_determined : Determined contracts.holds_signed.ended octets.holds_signed.Reads.Learnt
 holds_signed_determined κs a z z' w w' p q = search both
-
-pub signed_of_determined : Determined contracts.signed_of.ended octets.signed_of.Reads.Learnt
-signed_of_determined κs a z z' w w' p q = search both
-
-pub raw_of_determined : Determined contracts.raw_of.ended octets.raw_of.Reads.Learnt
-raw_of_determined κs a z z' w w' p q = search both
-
-pub clear_determined : Determined contracts.clear.ended octets.clear.Reads.Learnt
-clear_determined κs a z z' w w' p q = search both
-
-pub copy_determined : Determined contracts.copy.ended octets.copy.Reads.Learnt
-copy_determined κs a z z' w w' p q = search both

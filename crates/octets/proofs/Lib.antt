@@ -1,6 +1,6 @@
 pub mod Begins
 pub mod ExclusiveOr
-pub mod ChecksumSteps
+pub mod Walks
 pub mod Numbers
 pub mod Parts
 pub mod Signed

@@ -1,18 +1,17 @@
 -- Parts of a list: put in the middle, written over the front. Assumes nothing.
-use Prim.Native.Nat.{ℕ, zero, suc, ◌+◌, ◌-◌, ◌≤◌, ◌<◌}
+use Prim.Native.Nat.{ℕ, suc, ◌+◌, ◌-◌, ◌≤◌, ◌<◌}
 use mathlib.Core.Path.{◌≡◌, refl, sym, ap, ap₂, ◌∙◌}
 use mathlib.Core.List.{List, [], ◌∷◌, ◌++◌, append_assoc, append-nil}
 use native.Mathlib.Omega.{arith}
-use native.Mathlib.Nat.{zero-add, add-zero, suc-add}
+use native.Mathlib.Nat.{zero-add, add-zero}
 use native.Mathlib.Numerals.{add-one}
 use lib.ListN.{length, get_or, set, take, drop, length-append, length-drop, drop_of_length-le, take-append-drop, get_or-append}
-use lib.Seq.{take_at, take-nil, drop-append-add, drop-drop, drop-cons, set_at, length-take-le, get_or-take, get_or-drop, get_or-append-add}
+use lib.Seq.{take_at, drop-append-add, drop-drop, drop-cons, set_at, length-take-le, get_or-take, get_or-drop, get_or-append-add}
+use Rattle.std.proofs.lemmas.List.{drop-take}
 use Rattle.octets.specs.Parts.{over, put, part}
 
 pub drop_take : (a n : ℕ) (l : List ℕ) → drop a (take (a + n) l) ≡ take n (drop a l)
-drop_take zero n l = ap (λ k. take k l) (zero-add n)
-drop_take (suc a) n [] = ap (drop (suc a)) (take-nil (suc a + n)) ∙ sym (take-nil n)
-drop_take (suc a) n (x ∷ l) = ap (λ k. drop (suc a) (take k (x ∷ l))) (suc-add a n) ∙ drop_take a n l
+drop_take = drop-take
 
 -- what a lent part leaves, as a put
 pub mid_put : (a k : ℕ) (s ys : List ℕ) → length ys ≡ k → take a s ++ (ys ++ drop k (drop a s)) ≡ put a ys s

@@ -1,17 +1,18 @@
--- Two's complement at every width: there and back; and what the machine's signed operations come to. Assumes nothing.
-use mathlib.Core.Path.{◌≡◌, refl, sym, ap, ◌∙◌, subst}
-use mathlib.Core.Bool.{Bool, true, false, cond, true≢false, false≢true}
-use Prim.Native.Nat.{ℕ, zero, suc, ◌-◌, ◌*◌, ◌^◌, ◌≤◌, ◌<◌}
-use native.Mathlib.Nat.{zero-add}
+-- Two's complement at every width: there and back; and the casts of 32 bits. Assumes nothing.
+use mathlib.Core.Path.{◌≡◌, refl, sym, ap, ◌∙◌}
+use mathlib.Core.Bool.{Bool, true, false, cond}
+use Prim.Native.Nat.{ℕ, suc, ◌-◌, ◌*◌, ◌^◌, ◌≤◌, ◌<◌}
+use native.Mathlib.Nat.{lt_of_lt_of_le}
+use mir.Val.{sel}
+use Rattle.std.specs.Int.{w32, cast_signed, cast_unsigned}
+use Rattle.std.specs.Prelude.{min}
 use native.Mathlib.Omega.{arith}
-use borrow.Author.Tests.{lt-ltb, le-ltb, ltb-true, ltb-false}
-use lib.Dec.{T, ltb, leb-zero}
-use lib.IntN.{ℤ, pos, negsuc, nat_abs, ◌-ℤ◌}
-use lib.Signed.{mag, non_neg, le_z}
-use mir.Syntax.{Width}
-use mir.Val.{Fits, SFits, to_z, of_z, hbits}
-use mir.ValLaws.{to_z_pos, to_z-of_z, half_full}
-use Rattle.octets.specs.Signed.{signed_of, raw_of}
+use borrow.Author.Tests.{lt-ltb, le-ltb, leb-true, leb-false, ltb-true, ltb-false}
+use lib.Dec.{ltb, leb}
+use lib.Pow.{pow_mono}
+use lib.IntN.{ℤ, pos, negsuc}
+use lib.Signed.{mag}
+use Rattle.octets.specs.Signed.{half, signed_of, raw_of}
 
 -- ---- the laws of a field whose sign bit is worth h
 module _ (h : ℕ) where
@@ -52,56 +53,24 @@ module _ (h : ℕ) where
   raw_fits (pos n) l = omega arith
   raw_fits (negsuc n) l = omega arith
 
--- ---- -1 - z turns every bit of z
-abbrev pub flip : ℤ → ℤ
-flip (pos n) = negsuc n
-flip (negsuc n) = pos n
-
-pub flip_is : (z : ℤ) → negsuc 0 -ℤ z ≡ flip z
-flip_is (pos zero) = refl
-flip_is (pos (suc n)) = ap (λ (x : ℕ). negsuc (suc x)) (zero-add n)
-flip_is (negsuc n) = ap (λ (b : Bool). cond b (negsuc (1 - suc (suc n))) (pos (suc n - 1))) (le-ltb (suc n) 1 low) ∙ ap pos same
+-- 64 bits hold every number of theirs, and so does any wider field
+pub half_cut : (m w : ℕ) → m < 9223372036854775808 → ltb m (half (min w 64)) ≡ ltb m (half w)
+half_cut m w l = go (leb w 64) refl
   where
-    low : 1 ≤ suc n
-    low = omega arith
+    go : (b : Bool) → leb w 64 ≡ b → ltb m (half (min w 64)) ≡ ltb m (half w)
+    go true e = let z : min w 64 ≡ w = omega (arith, leb-true w 64 e) in ap (λ n. ltb m (half n)) z
+    go false e =
+        let z : min w 64 ≡ 64 = omega (arith, leb-false w 64 e) in
+        ap (λ n. ltb m (half n)) z ∙ lt-ltb m (half 64) l ∙ sym (lt-ltb m (half w) (lt_of_lt_of_le l (pow_mono {i = 63} {j = w - 1} (omega (arith, leb-false w 64 e)))))
 
-    same : suc n - 1 ≡ n
-    same = omega arith
+-- the casts between u32 and i32
+pub signed_cast : (n : ℕ) → cast_signed w32 n ≡ signed_of (half 32) n
+signed_cast n = go (ltb n (half 32))
+  where
+    go : (b : Bool) → sel b (pos n) (negsuc (2 ^ 32 - suc n)) ≡ cond b (pos n) (negsuc (half 32 * 2 - suc n))
+    go true = refl
+    go false = refl
 
--- k as a signed number, and -1 less it
-pub minus_is : (w : Width) (k : ℕ) → k < 2 ^ hbits w → negsuc 0 -ℤ to_z w k ≡ negsuc k
-minus_is w k h = ap (λ (y : ℤ). negsuc 0 -ℤ y) (to_z_pos w k h) ∙ flip_is (pos k)
-
--- ---- what the machine reads back from z's bits, at a test of its sign
-module _ (w : Width) (z : ℤ) (f : SFits w z) where
-  -- z >= 0
-  pub above : le_z (pos 0) (to_z w (of_z w z)) ≡ true → z ≡ pos (mag z)
-  above t = go z (ap (λ (y : ℤ). le_z (pos 0) y) (sym (to_z-of_z w z f)) ∙ t)
-    where
-      go : (y : ℤ) → le_z (pos 0) y ≡ true → y ≡ pos (mag y)
-      go (pos n) t = refl
-      go (negsuc n) t = absurd (false≢true t)
-
-  -- z < 0
-  pub below : le_z (pos 0) (to_z w (of_z w z)) ≡ false → z ≡ negsuc (mag z)
-  below t = go z (ap (λ (y : ℤ). le_z (pos 0) y) (sym (to_z-of_z w z f)) ∙ t)
-    where
-      go : (y : ℤ) → le_z (pos 0) y ≡ false → y ≡ negsuc (mag y)
-      go (pos n) t = absurd (true≢false (sym (leb-zero n) ∙ t))
-      go (negsuc n) t = refl
-
-  pub is_above : le_z (pos 0) (to_z w (of_z w z)) ≡ true → to_z w (of_z w z) ≡ pos (mag z)
-  is_above t = to_z-of_z w z f ∙ above t
-
-  pub is_below : le_z (pos 0) (to_z w (of_z w z)) ≡ false → negsuc 0 -ℤ to_z w (of_z w z) ≡ pos (mag z)
-  is_below t = ap (λ (y : ℤ). negsuc 0 -ℤ y) (to_z-of_z w z f ∙ below t) ∙ flip_is (negsuc (mag z))
-
-  pub mag_fits : SFits w (pos (mag z))
-  mag_fits = record { sfits = f.sfits }
-
-  pub is_below_back : le_z (pos 0) (to_z w (of_z w z)) ≡ false → to_z w (of_z w (negsuc 0 -ℤ to_z w (of_z w z))) ≡ pos (mag z)
-  is_below_back t = ap (λ (y : ℤ). to_z w (of_z w y)) (is_below t) ∙ to_z-of_z w (pos (mag z)) mag_fits
-
--- a signed number that is m, cast to an unsigned type of its width
-pub cast_ok : (w : Width) (y : ℤ) (m : ℕ) → y ≡ pos m → SFits w (pos m) → T (non_neg y) × Fits w (nat_abs y)
-cast_ok w y m e f = subst (λ (x : ℤ). T (non_neg x) × Fits w (nat_abs x)) (sym e) (tt, record { fits = half_full w f.sfits })
+pub raw_cast : (z : ℤ) → cast_unsigned w32 z ≡ raw_of (half 32) z
+raw_cast (pos n) = refl
+raw_cast (negsuc n) = refl

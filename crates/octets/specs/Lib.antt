@@ -1,5 +1,4 @@
 pub mod Checksum
-pub mod Steps
 pub mod Numbers
 pub mod Parts
 pub mod Begins

@@ -1,4 +1,5 @@
 -- The appearances that a call takes are those of the message's observations, and their SIDs are bytes. Assumes nothing.
+use Rattle.std.specs.Prelude.{Ok}
 use Prim.Native.Nat.{ℕ, zero, suc, ◌+◌, ◌≤◌, ◌<◌}
 use mathlib.Core.Path.{◌≡◌, refl, sym, ap, ap₂, ◌∙◌}
 use mathlib.Core.Bool.{Bool, true, false, cond}
@@ -11,8 +12,6 @@ use Rattle.octets.specs.Numbers.{Bytes}
 use Rattle.octets.specs.Parts.{part}
 use Rattle.octets.proofs.Numbers.{number_fits, part_bytes}
 use Rattle.macm.specs.declared.Form.{Form}
-use Rattle.macm.specs.declared.Observed.TheVariants.{Read}
-use Rattle.macm.specs.declared.Verdict.TheVariants.{Accepted}
 use Rattle.macm.specs.Form.{observation_at}
 use Rattle.macm.specs.Check.{verdict}
 use Rattle.macm.specs.Observation.{observation_of}
@@ -48,9 +47,9 @@ small_append : (xs ys : List Appearance) → Small xs → Small ys → Small (xs
 small_append [] ys h g = g
 small_append (x ∷ xs) ys h g = (h.0, small_append xs ys h.1 g)
 
-module _ (m : List ℕ) (f : Form) (n : ℕ) (accepted : verdict m ≡ Accepted f n) (time : ℕ) where
+module _ (m : List ℕ) (f : Form) (n : ℕ) (accepted : verdict m ≡ Ok (f, n)) (time : ℕ) where
   -- the observation at an index that there is
-  there : (j : ℕ) → j < n → observed_as f n m j ≡ Read (observation_of (part (observation_at f j) 24 m))
+  there : (j : ℕ) → j < n → observed_as f n m j ≡ Ok (observation_of (part (observation_at f j) 24 m))
   there j l = sym (observed_there m j f n (fine m f n accepted).long l _ refl)
 
   -- ---- of the first k observations
@@ -59,7 +58,7 @@ module _ (m : List ℕ) (f : Form) (n : ℕ) (accepted : verdict m ≡ Accepted 
   seen_up_to zero l = refl
   seen_up_to (suc k) l =
       let o = observation_of (part (observation_at f k) 24 m) in
-      let read : observed_of m (0 + k) ≡ Read o = ap (observed_of m) (zero-add k) ∙ sym (observed_accepted m k f n accepted) ∙ there k (omega arith) in
+      let read : observed_of m (0 + k) ≡ Ok o = ap (observed_of m) (zero-add k) ∙ sym (observed_accepted m k f n accepted) ∙ there k (omega arith) in
       ap₂ (λ a b. a ++ appearance_of time b) (seen_up_to k (omega arith)) (there k (omega arith))
       ∙ ap (λ r. map (appears time) (read_from k 0 m) ++ (appears time (observation_in r) ∷ [])) (sym read)
       ∙ sym (map_app (appears time) (read_from k 0 m) (observation_in (observed_of m (0 + k)) ∷ []))
@@ -73,7 +72,7 @@ module _ (m : List ℕ) (f : Form) (n : ℕ) (accepted : verdict m ≡ Accepted 
       small_append (appearances_up_to k f time n m) _ (small_up_to h k (omega arith)) (rw (there k (omega arith)) (sid_small b (part_bytes m (observation_at f k) 24 h), tt))
 
 -- ---- of a message that is accepted
-module _ (type : ℕ) (m : List ℕ) (f : Form) (n : ℕ) (accepted : verdict m ≡ Accepted f n) where
+module _ (type : ℕ) (m : List ℕ) (f : Form) (n : ℕ) (accepted : verdict m ≡ Ok (f, n)) where
   abbrev time : ℕ
   time = (header_of f m).time
 

@@ -1,4 +1,5 @@
 -- A message of n bytes stands at the front exactly if they are here and the message check accepts them. Assumes nothing.
+use Rattle.std.specs.Prelude.{Result, Ok, Err}
 use Prim.Native.Nat.{ℕ, suc, ◌≤◌, ◌<◌}
 use mathlib.Core.Path.{◌≡◌, refl, sym, ap, ◌∙◌}
 use mathlib.Core.Bool.{Bool, true, false, cond}
@@ -16,8 +17,6 @@ use Rattle.octets.proofs.Begins.{Fits, fit_common}
 use Rattle.refusal.proofs.Numbered.{positive}
 use Rattle.macm.specs.declared.Form.{Form}
 use Rattle.macm.specs.declared.Form.TheVariants.{New, Old}
-use Rattle.macm.specs.declared.Verdict.{Verdict}
-use Rattle.macm.specs.declared.Verdict.TheVariants.{Refused, Accepted}
 use Rattle.macm.specs.Form.{new_sync, old_sync, count_at, size}
 use Rattle.macm.specs.Check.{agrees, verdict}
 use Rattle.macm.specs.Answers.{check_number}
@@ -29,6 +28,7 @@ use Rattle.front.specs.Claim.{cap, counted, claim_by, claim}
 use Rattle.front.specs.Look.{unsettled, gap, message, judged, look_by, look}
 use Rattle.front.proofs.Settled.{keep_fit, fit_append}
 use Rattle.front.proofs.Bounds.{ClaimFact, claim_fact}
+use Rattle.refusal.specs.declared.Refusal.{Refusal}
 
 -- a string that is no longer than the first n bytes fits them as it fits all
 fit_front : (t xs : List ℕ) (n : ℕ) → length t ≤ n → n ≤ length xs → fit t (take n xs) ≡ fit t xs
@@ -140,6 +140,6 @@ module _ (xs : List ℕ) (n : ℕ) (here : n ≤ length xs) (bytes : Bytes xs) w
 pub checked_message : (xs : List ℕ) (n : ℕ) → Bytes xs → n ≤ length xs → check_number (verdict (take n xs)) ≡ 0 → look xs ≡ message n
 checked_message xs n bytes here = go (verdict (take n xs)) refl
   where
-    go : (v : Verdict) → verdict (take n xs) ≡ v → check_number v ≡ 0 → look xs ≡ message n
-    go (Refused r) e z = absurd (omega (arith, positive r))
-    go (Accepted f k) e z = let h = fine (take n xs) f k e in fine_look xs n here bytes (fine_claim xs n here bytes f k h) h.agree
+    go : (v : Result (Form × ℕ) Refusal) → verdict (take n xs) ≡ v → check_number v ≡ 0 → look xs ≡ message n
+    go (Err r) e z = absurd (omega (arith, positive r))
+    go (Ok (f, k)) e z = let h = fine (take n xs) f k e in fine_look xs n here bytes (fine_claim xs n here bytes f k h) h.agree

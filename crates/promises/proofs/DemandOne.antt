@@ -1,5 +1,6 @@
 -- Demand 1: every entry open to callers takes all inputs and refuses by 01's numbers, and a refusal changes no lent buffer and no reader state. That an
 -- entry ends is part of what `rt` proves of each function. Assumes nothing.
+use Rattle.std.specs.Prelude.{Result}
 use Prim.Native.Nat.{ℕ}
 use mathlib.Core.Path.{◌≡◌, refl}
 use mathlib.Core.List.{List}
@@ -13,7 +14,6 @@ use Rattle.macm.specs.declared.Observation.{Observation}
 use Rattle.macm.specs.Check.{verdict}
 use Rattle.macm.specs.Answers.{check_number}
 use Rattle.macm.specs.Read.{claimed_head, head_of, observed_as, observed_of}
-use Rattle.refusal.specs.declared.Written.{Written}
 use Rattle.refusal.specs.Written.{written_number, written_length}
 use Rattle.compose.specs.Start.{start_of, start_bytes}
 use Rattle.compose.specs.Set.{set_of, set_bytes}
@@ -67,6 +67,7 @@ use Rattle.lines.specs.contracts as lines_contracts
 use Rattle.lines.proofs as lines
 use Rattle.board.specs.contracts as board_contracts
 use Rattle.board.proofs as board
+use Rattle.refusal.specs.declared.Refusal.{Refusal}
 
 -- ---- it refuses by the numbers of 01 and 02: each under its condition, in the order of the tests, and 0 where none holds (promises/specs/Numbers.antt)
 pub check_by_number : (m : List ℕ) → CheckTable m (check_number (verdict m))
@@ -142,7 +143,7 @@ breaks_refused m ws list = unchanged.history_unchanged (head_of m) m ws list
 pub claimed_breaks_refused : (m ws list : List ℕ) → UnchangedHistory ws list (claimed_call m ws list)
 claimed_breaks_refused m ws list = unchanged.history_unchanged (claimed_head m) m ws list
 
-pub refused_hands_back_nothing : (w : Written) → Refuses w → written_length w ≡ 0
+pub refused_hands_back_nothing : (w : Result ℕ Refusal) → Refuses w → written_length w ≡ 0
 refused_hands_back_nothing w r = unchanged.no_length w r
 
 -- ---- nor the reader's state, nor the window and the output lent to it
@@ -163,6 +164,16 @@ pub reading_asks_nothing :
     × AsksNothing division_contracts.message_part.ended division.message_part.Reads.Asked
     × AsksNothing reason_contracts.reason_at.ended reason.reason_at.Reads.Asked
 reading_asks_nothing = ((λ κs a. tt), (λ κs a. tt), (λ κs a. tt), (λ κs a. tt), (λ κs a. tt), (λ κs a. tt), (λ κs a. tt), (λ κs a. tt))
+
+pub claimed_messages_ask_nothing :
+    AsksNothing macm_contracts.claimed.Claimed.of.ended macm.claimed.Claimed.of.Reads.Asked
+    × AsksNothing macm_contracts.claimed.Claimed.checked.ended macm.claimed.Claimed.checked.Reads.Asked
+    × AsksNothing macm_contracts.claimed.Claimed.form.ended macm.claimed.Claimed.form.Reads.Asked
+    × AsksNothing macm_contracts.claimed.Claimed.count.ended macm.claimed.Claimed.count.Reads.Asked
+    × AsksNothing macm_contracts.claimed.Claimed.header.ended macm.claimed.Claimed.header.Reads.Asked
+    × AsksNothing macm_contracts.claimed.Claimed.observation.ended macm.claimed.Claimed.observation.Reads.Asked
+    × AsksNothing macm_contracts.claimed.Claimed.observations.ended macm.claimed.Claimed.observations.Reads.Asked
+claimed_messages_ask_nothing = ((λ κs a. tt), (λ κs a. tt), (λ κs a. tt), (λ κs a. tt), (λ κs a. tt), (λ κs a. tt), (λ κs a. tt))
 
 pub writing_asks_nothing :
     AsksNothing compose_contracts.start.ended compose.start.Reads.Asked
@@ -237,19 +248,16 @@ pub bytes_ask_nothing :
     × AsksNothing octets_contracts.signed_in.ended octets.signed_in.Reads.Asked
     × AsksNothing octets_contracts.raw_in.ended octets.raw_in.Reads.Asked
     × AsksNothing octets_contracts.holds_signed.ended octets.holds_signed.Reads.Asked
-    × AsksNothing octets_contracts.signed_of.ended octets.signed_of.Reads.Asked
-    × AsksNothing octets_contracts.raw_of.ended octets.raw_of.Reads.Asked
-    × AsksNothing octets_contracts.clear.ended octets.clear.Reads.Asked
-    × AsksNothing octets_contracts.copy.ended octets.copy.Reads.Asked
-bytes_ask_nothing = ((λ κs a. tt), (λ κs a. tt), (λ κs a. tt), (λ κs a. tt), (λ κs a. tt), (λ κs a. tt), (λ κs a. tt), (λ κs a. tt), (λ κs a. tt), (λ κs a. tt), (λ κs a. tt), (λ κs a. tt), (λ κs a. tt))
+bytes_ask_nothing = ((λ κs a. tt), (λ κs a. tt), (λ κs a. tt), (λ κs a. tt), (λ κs a. tt), (λ κs a. tt), (λ κs a. tt), (λ κs a. tt), (λ κs a. tt))
 
 pub fields_ask_nothing :
-    AsksNothing bits_contracts.field.ended bits.field.Reads.Asked
-    × AsksNothing bits_contracts.put_field.ended bits.put_field.Reads.Asked
-    × AsksNothing bits_contracts.signed_field.ended bits.signed_field.Reads.Asked
-    × AsksNothing bits_contracts.put_signed_field.ended bits.put_signed_field.Reads.Asked
-    × AsksNothing bits_contracts.holds.ended bits.holds.Reads.Asked
-fields_ask_nothing = ((λ κs a. tt), (λ κs a. tt), (λ κs a. tt), (λ κs a. tt), (λ κs a. tt))
+    AsksNothing bits_contracts.Field.read.ended bits.Field.read.Reads.Asked
+    × AsksNothing bits_contracts.Field.write.ended bits.Field.write.Reads.Asked
+    × AsksNothing bits_contracts.Field.read_signed.ended bits.Field.read_signed.Reads.Asked
+    × AsksNothing bits_contracts.Field.write_signed.ended bits.Field.write_signed.Reads.Asked
+    × AsksNothing bits_contracts.Field.holds.ended bits.Field.holds.Reads.Asked
+    × AsksNothing bits_contracts.Field.holds_signed.ended bits.Field.holds_signed.Reads.Asked
+fields_ask_nothing = ((λ κs a. tt), (λ κs a. tt), (λ κs a. tt), (λ κs a. tt), (λ κs a. tt), (λ κs a. tt))
 
 pub units_ask_nothing :
     AsksNothing units_contracts.LockCount.from_count.ended units.LockCount.from_count.Reads.Asked
@@ -271,36 +279,43 @@ pub parts_ask_nothing :
 parts_ask_nothing = ((λ κs a. tt), (λ κs a. tt), (λ κs a. tt), (λ κs a. tt), (λ κs a. tt), (λ κs a. tt), (λ κs a. tt))
 
 pub words_ask_nothing :
-    AsksNothing words_contracts.form_in.ended words.form_in.Reads.Asked
-    × AsksNothing words_contracts.header_in.ended words.header_in.Reads.Asked
-    × AsksNothing words_contracts.observation_in.ended words.observation_in.Reads.Asked
-    × AsksNothing words_contracts.head_words.ended words.head_words.Reads.Asked
-    × AsksNothing words_contracts.observed_words.ended words.observed_words.Reads.Asked
-    × AsksNothing words_contracts.written_words.ended words.written_words.Reads.Asked
-    × AsksNothing words_contracts.listed_words.ended words.listed_words.Reads.Asked
-    × AsksNothing words_contracts.found_words.ended words.found_words.Reads.Asked
-    × AsksNothing words_contracts.reason_words.ended words.reason_words.Reads.Asked
+    AsksNothing words_contracts.FormFromHeaderWords.from.ended words.FormFromHeaderWords.from.Reads.Asked
+    × AsksNothing words_contracts.HeaderFromHeaderWords.from.ended words.HeaderFromHeaderWords.from.Reads.Asked
+    × AsksNothing words_contracts.ObservationFromObservationWords.from.ended words.ObservationFromObservationWords.from.Reads.Asked
+    × AsksNothing words_contracts.RecordFromRecordWords.from.ended words.RecordFromRecordWords.from.Reads.Asked
+    × AsksNothing words_contracts.HeaderWordsFromHeader.from.ended words.HeaderWordsFromHeader.from.Reads.Asked
+    × AsksNothing words_contracts.ObservationWordsFromObservation.from.ended words.ObservationWordsFromObservation.from.Reads.Asked
+    × AsksNothing words_contracts.HeadWordsFromResultTuple2HeaderU8Refusal.from.ended words.HeadWordsFromResultTuple2HeaderU8Refusal.from.Reads.Asked
+    × AsksNothing words_contracts.ObservedWordsFromResultObservationRefusal.from.ended words.ObservedWordsFromResultObservationRefusal.from.Reads.Asked
+    × AsksNothing words_contracts.WrittenWordsFromResultUsizeRefusal.from.ended words.WrittenWordsFromResultUsizeRefusal.from.Reads.Asked
+    × AsksNothing words_contracts.ListedWordsFromResultUsizeRefusal.from.ended words.ListedWordsFromResultUsizeRefusal.from.Reads.Asked
+    × AsksNothing words_contracts.FoundWordsFromResultNextRefusal.from.ended words.FoundWordsFromResultNextRefusal.from.Reads.Asked
+    × AsksNothing words_contracts.ReasonWordsFromResultReasonRefusal.from.ended words.ReasonWordsFromResultReasonRefusal.from.Reads.Asked
     × AsksNothing words_contracts.answer_words.ended words.answer_words.Reads.Asked
-    × AsksNothing words_contracts.phase_words.ended words.phase_words.Reads.Asked
-    × AsksNothing words_contracts.record_in.ended words.record_in.Reads.Asked
-    × AsksNothing words_contracts.record_words.ended words.record_words.Reads.Asked
-    × AsksNothing words_contracts.adr_words.ended words.adr_words.Reads.Asked
+    × AsksNothing words_contracts.PhaseWordsFromPhase.from.ended words.PhaseWordsFromPhase.from.Reads.Asked
+    × AsksNothing words_contracts.RecordWordsFromResultRecordRefusal.from.ended words.RecordWordsFromResultRecordRefusal.from.Reads.Asked
+    × AsksNothing words_contracts.AdrWordsFromResultCorrectedRefusal.from.ended words.AdrWordsFromResultCorrectedRefusal.from.Reads.Asked
 words_ask_nothing =
-    ((λ κs a. tt), (λ κs a. tt), (λ κs a. tt), (λ κs a. tt), (λ κs a. tt), (λ κs a. tt), (λ κs a. tt), (λ κs a. tt), (λ κs a. tt), (λ κs a. tt), (λ κs a. tt), (λ κs a. tt), (λ κs a. tt), (λ κs a. tt))
+    ((λ κs a. tt), (λ κs a. tt), (λ κs a. tt), (λ κs a. tt), (λ κs a. tt), (λ κs a. tt), (λ κs a. tt), (λ κs a. tt), (λ κs a. tt), (λ κs a. tt), (λ κs a. tt), (λ κs a. tt), (λ κs a. tt), (λ κs a. tt), (λ κs a. tt), (λ κs a. tt))
 
 pub text_asks_nothing :
-    AsksNothing text_contracts.put.ended text.put.Reads.Asked
-    × AsksNothing text_contracts.put_all.ended text.put_all.Reads.Asked
+    AsksNothing text_contracts.Text.new.ended text.Text.new.Reads.Asked
+    × AsksNothing text_contracts.Text.behind.ended text.Text.behind.Reads.Asked
+    × AsksNothing text_contracts.Text.at.ended text.Text.at.Reads.Asked
+    × AsksNothing text_contracts.Text.written.ended text.Text.written.Reads.Asked
+    × AsksNothing text_contracts.Text.clear.ended text.Text.clear.Reads.Asked
+    × AsksNothing text_contracts.Text.put.ended text.Text.put.Reads.Asked
+    × AsksNothing text_contracts.Text.put_all.ended text.Text.put_all.Reads.Asked
     × AsksNothing text_contracts.front.ended text.front.Reads.Asked
-    × AsksNothing text_contracts.put_decimal.ended text.put_decimal.Reads.Asked
-    × AsksNothing text_contracts.put_hex.ended text.put_hex.Reads.Asked
-    × AsksNothing text_contracts.put_number.ended text.put_number.Reads.Asked
-    × AsksNothing text_contracts.put_long.ended text.put_long.Reads.Asked
-    × AsksNothing text_contracts.put_short.ended text.put_short.Reads.Asked
-    × AsksNothing text_contracts.put_count.ended text.put_count.Reads.Asked
-    × AsksNothing text_contracts.put_metres.ended text.put_metres.Reads.Asked
-    × AsksNothing text_contracts.put_hertz.ended text.put_hertz.Reads.Asked
-    × AsksNothing text_contracts.put_cycles.ended text.put_cycles.Reads.Asked
+    × AsksNothing text_contracts.Text.put_decimal.ended text.Text.put_decimal.Reads.Asked
+    × AsksNothing text_contracts.Text.put_hex.ended text.Text.put_hex.Reads.Asked
+    × AsksNothing text_contracts.Text.put_number.ended text.Text.put_number.Reads.Asked
+    × AsksNothing text_contracts.Text.put_long.ended text.Text.put_long.Reads.Asked
+    × AsksNothing text_contracts.Text.put_short.ended text.Text.put_short.Reads.Asked
+    × AsksNothing text_contracts.Text.put_count.ended text.Text.put_count.Reads.Asked
+    × AsksNothing text_contracts.Text.put_metres.ended text.Text.put_metres.Reads.Asked
+    × AsksNothing text_contracts.Text.put_hertz.ended text.Text.put_hertz.Reads.Asked
+    × AsksNothing text_contracts.Text.put_cycles.ended text.Text.put_cycles.Reads.Asked
     × AsksNothing lines_contracts.put_line.ended lines.put_line.Reads.Asked
     × AsksNothing lines_contracts.put_end.ended lines.put_end.Reads.Asked
     × AsksNothing lines_contracts.put_rows.ended lines.put_rows.Reads.Asked
@@ -308,7 +323,7 @@ pub text_asks_nothing :
     × AsksNothing argument_contracts.small_number.ended argument.small_number.Reads.Asked
     × AsksNothing account_contracts.put_report.ended account.put_report.Reads.Asked
 text_asks_nothing =
-    ((λ κs a. tt), (λ κs a. tt), (λ κs a. tt), (λ κs a. tt), (λ κs a. tt), (λ κs a. tt), (λ κs a. tt), (λ κs a. tt), (λ κs a. tt), (λ κs a. tt), (λ κs a. tt), (λ κs a. tt), (λ κs a. tt), (λ κs a. tt), (λ κs a. tt), (λ κs a. tt), (λ κs a. tt), (λ κs a. tt))
+    ((λ κs a. tt), (λ κs a. tt), (λ κs a. tt), (λ κs a. tt), (λ κs a. tt), (λ κs a. tt), (λ κs a. tt), (λ κs a. tt), (λ κs a. tt), (λ κs a. tt), (λ κs a. tt), (λ κs a. tt), (λ κs a. tt), (λ κs a. tt), (λ κs a. tt), (λ κs a. tt), (λ κs a. tt), (λ κs a. tt), (λ κs a. tt), (λ κs a. tt), (λ κs a. tt), (λ κs a. tt), (λ κs a. tt))
 
 -- and of the two over a lent state: their `requires` is empty in every model of the logic
 pub cs_feed_asks_nothing : (w : World) (κs : Lfts 4) (a : Args board_contracts.cs_feed.signature κs) → (board_contracts.cs_feed.clauses w.𝓛 w.𝓜.mem w.𝓡.run κs a).requires tt ≡ emp w.𝓤

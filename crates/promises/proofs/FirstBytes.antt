@@ -1,4 +1,5 @@
 -- The reason at the first byte is settled by as many bytes as the longest message has. Assumes nothing.
+use Rattle.std.specs.Prelude.{Ok}
 use Prim.Native.Nat.{ℕ, zero, suc, ◌+◌, ◌-◌, ◌≤◌, ◌<◌}
 use mathlib.Core.Path.{◌≡◌, refl, sym, ap, ap₂, ◌∙◌}
 use mathlib.Core.Bool.{Bool, true, false, cond}
@@ -47,11 +48,11 @@ here_front xs k l = go (leb (length xs) k) refl
     cut : k < length xs → (c : Claim) → c ≡ claim (take k xs) → ClaimFact (take k xs) c → claim xs ≡ keep_claim c (claim xs) → here_of (take k xs) ≡ here_of xs
     cut m Nothing e h q =
         sym (here_sync (take k xs) (λ z. omega (arith, length-take-le k xs (omega arith))) Nothing e refl)
-        ∙ ap₂ (λ i j. Sync (suc (further i j))) (common_front new_sync xs k (omega arith)) (common_front old_sync xs k (omega arith)) ∙ here_sync xs (some m) Nothing (sym q) refl
+        ∙ ap₂ (λ i j. Ok (Sync (suc (further i j)))) (common_front new_sync xs k (omega arith)) (common_front old_sync xs k (omega arith)) ∙ here_sync xs (some m) Nothing (sym q) refl
     cut m (AtLeast j) e h q = absurd (omega (arith, h.0, h.1, length-take-le k xs (omega arith)))
     cut m (Long n) e h q =
         sym (here_whole (take k xs) (λ z. omega (arith, length-take-le k xs (omega arith))) (Long n) e n refl (omega (arith, h.1, length-take-le k xs (omega arith))))
-        ∙ ap (summed n) (residue_front xs k n (omega arith) (omega (arith, h.1))) ∙ here_whole xs (some m) (Long n) (sym q) n refl (omega (arith, h.1))
+        ∙ ap (λ r. Ok (summed n r)) (residue_front xs k n (omega arith) (omega (arith, h.1))) ∙ here_whole xs (some m) (Long n) (sym q) n refl (omega (arith, h.1))
 
     go : (b : Bool) → leb (length xs) k ≡ b → here_of (take k xs) ≡ here_of xs
     go true e = ap here_of (take_all k xs (leb-true (length xs) k e))

@@ -1,5 +1,6 @@
 -- E8: calls for breaks, one a message, list the history over all messages from the first, and a SID's entries depend on that SID's observations and their
 -- message times alone. Assumes nothing.
+use Rattle.std.specs.Prelude.{Result, Ok, Err}
 use Prim.Native.Nat.{ℕ, ◌+◌, ◌-◌, ◌≤◌}
 use mathlib.Core.Path.{◌≡◌, refl, sym, ap, ap₂, ◌∙◌}
 use mathlib.Core.Bool.{false}
@@ -14,14 +15,10 @@ use Rattle.refusal.proofs.Numbered.{positive}
 use Rattle.macm.specs.declared.Form.{Form}
 use Rattle.macm.specs.declared.Form.TheVariants.{New, Old}
 use Rattle.macm.specs.declared.Header.{Header}
-use Rattle.macm.specs.declared.Head.TheVariants.{Read}
-use Rattle.macm.specs.declared.Verdict.{Verdict}
-use Rattle.macm.specs.declared.Verdict.TheVariants.{Refused, Accepted}
 use Rattle.macm.specs.Check.{verdict}
 use Rattle.macm.specs.Read.{head_of}
 use Rattle.macm.specs.Answers.{check_number}
 use Rattle.macm.proofs.ReadSteps.{head_accepted, claimed_head_lem}
-use Rattle.history.specs.declared.Breaks.TheVariants.{Listed}
 use Rattle.history.specs.Words.{type_in, fresh_words}
 use Rattle.history.specs.Appearances.{appears, is_of}
 use Rattle.history.specs.Breaks.{Entry, numbers_of}
@@ -38,18 +35,19 @@ use Rattle.promises.proofs.GivenIff.{valid_if_given}
 use Rattle.promises.proofs.HistoryWords.{keeps_fresh}
 use Rattle.promises.proofs.HistoryRuns.{calls_list}
 use Rattle.promises.proofs.OwnBreaks.{lists_joined, breaks_own, lists_own}
+use Rattle.refusal.specs.declared.Refusal.{Refusal}
 
 -- ---- the calls' lists, one after the other, are the history's: of every sequence of bytes, where what is no message is refused
 pub calls_owe : (type : ℕ) (lists : ℕ → List ℕ) (ms : List (List ℕ)) → ((i : ℕ) → list_numbers ≤ length (lists i)) → Every Bytes ms → calls type lists ms ≡ owed ms (history_of type ms)
 calls_owe type lists ms room b = calls_list type lists room ms [] (fresh_words type) (keeps_fresh type) b
 
 -- of messages no call is refused
-accepted_so : (m : List ℕ) → check_number (verdict m) ≡ 0 → (f : Form) × (n : ℕ) × (verdict m ≡ Accepted f n)
+accepted_so : (m : List ℕ) → check_number (verdict m) ≡ 0 → (f : Form) × (n : ℕ) × (verdict m ≡ Ok (f, n))
 accepted_so m = go (verdict m) refl
   where
-    go : (v : Verdict) → verdict m ≡ v → check_number v ≡ 0 → (f : Form) × (n : ℕ) × (verdict m ≡ Accepted f n)
-    go (Refused r) e z = absurd (omega (arith, positive r))
-    go (Accepted f n) e z = (f, n, e)
+    go : (v : Result (Form × ℕ) Refusal) → verdict m ≡ v → check_number v ≡ 0 → (f : Form) × (n : ℕ) × (verdict m ≡ Ok (f, n))
+    go (Err r) e z = absurd (omega (arith, positive r))
+    go (Ok (f, n)) e z = (f, n, e)
 
 every_bytes : (ms : List (List ℕ)) → Every Message ms → Every Bytes ms
 every_bytes [] h = tt
@@ -101,8 +99,8 @@ not_of : (type : ℕ) (f : Form) → PassedOver type f → is_of type f ≡ fals
 not_of type (New signal tfom) p = ne_eqb signal type p
 not_of type (Old version) p = refl
 
-module _ (m : List ℕ) (h : Header) (n : ℕ) (read : head_of m ≡ Read h n) where
-  pub passed_over : (ws list : List ℕ) → PassedOver (type_in ws) h.form → list_numbers ≤ length list → Leaves (next_call m ws list) (Listed 0) ws list
+module _ (m : List ℕ) (h : Header) (n : ℕ) (read : head_of m ≡ Ok (h, n)) where
+  pub passed_over : (ws list : List ℕ) → PassedOver (type_in ws) h.form → list_numbers ≤ length list → Leaves (next_call m ws list) (Ok 0) ws list
   passed_over ws list p room = rw read (call_passes_over m ws list h n room (not_of (type_in ws) h.form p))
 
   pub none_seen : (type : ℕ) → PassedOver type h.form → seen_in type m ≡ []

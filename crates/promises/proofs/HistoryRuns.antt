@@ -1,4 +1,5 @@
 -- Calls for breaks, one a message, list what the history over all messages says. Assumes nothing.
+use Rattle.std.specs.Prelude.{Result, Ok, Err}
 use Prim.Native.Nat.{ℕ, ◌*◌, ◌≤◌}
 use mathlib.Core.Path.{◌≡◌, refl, sym, ap, ap₂, ◌∙◌, subst}
 use mathlib.Core.List.{List, [], ◌∷◌, ◌++◌, map, append_assoc, append-nil}
@@ -6,9 +7,6 @@ use lib.ListN.{length, take, drop}
 use lib.Seq.{take_at}
 use borrow.Author.Tests.{le-ltb}
 use Rattle.octets.specs.Numbers.{Bytes}
-use Rattle.macm.specs.declared.Head.TheVariants.{Refused as NoHead, Read}
-use Rattle.macm.specs.declared.Verdict.{Verdict}
-use Rattle.macm.specs.declared.Verdict.TheVariants.{Refused, Accepted}
 use Rattle.macm.specs.Check.{verdict}
 use Rattle.macm.specs.Read.{header_of, head_of}
 use Rattle.macm.proofs.ReadSteps.{head_refused, head_accepted}
@@ -22,6 +20,8 @@ use Rattle.promises.specs.History.{breaks_since, lists_since, seen_by, seen_in}
 use Rattle.promises.specs.HistoryCalls.{listed, told_by, calls_from, owed_by, owed, Every}
 use Rattle.promises.proofs.Appearing.{Small, seen_same, seen_small}
 use Rattle.promises.proofs.HistoryWords.{Keeps, keeps_one, said_same}
+use Rattle.macm.specs.declared.Form.{Form}
+use Rattle.refusal.specs.declared.Refusal.{Refusal}
 
 module _ (type : ℕ) where
   -- ---- one appearance after the other
@@ -48,15 +48,15 @@ module _ (type : ℕ) where
   unfolding call_by
   call_lists before ws list m h room b = go (verdict m) refl
     where
-      go : (v : Verdict) → verdict m ≡ v → Listed before ws list m
-      go (Refused r) e =
-          let head : head_of m ≡ NoHead r = sym (head_refused m r e) in
+      go : (v : Result (Form × ℕ) Refusal) → verdict m ≡ v → Listed before ws list m
+      go (Err r) e =
+          let head : head_of m ≡ Err r = sym (head_refused m r e) in
           record { given = rw head; kept = rw (head, append-nil before) h }
-      go (Accepted f n) e =
-          let head : head_of m ≡ Read (header_of f m) n = sym (head_accepted m f n e) in
+      go (Ok (f, n)) e =
+          let head : head_of m ≡ Ok (header_of f m, n) = sym (head_accepted m f n e) in
           let xs = appearances_in type (header_of f m) n m in
           let es = (after_all (begun ws) xs).entries in
-          let seen = seen_by type (Read (header_of f m) n) (observations_of m) in
+          let seen = seen_by type (Ok (header_of f m, n)) (observations_of m) in
           let same : xs ≡ seen = seen_same type m f n e ∙ ap (λ h. seen_by type h (observations_of m)) head in
           let small = seen_small type m f n e b in
           let said : es ≡ breaks_since before seen = said_all xs before ws h small ∙ ap (breaks_since before) same in

@@ -1,4 +1,5 @@
 -- The words of a history hold what was seen last of every SID. Assumes nothing.
+use Rattle.std.specs.Prelude.{Some, None}
 use Prim.Native.Nat.{ℕ, suc, ◌+◌, ◌*◌, ◌<◌}
 use mathlib.Core.Path.{◌≡◌, refl, sym, ap, ◌∙◌}
 use mathlib.Core.Bool.{Bool, true, false, cond}
@@ -10,6 +11,7 @@ use lib.ListN.{length, get_or, replicate, length-replicate, get_or-replicate}
 use borrow.Author.Tests.{ltb-true, ltb-false, eqb-true, eqb-false, eq-eqb}
 use Rattle.octets.proofs.Parts.{length_put, put_before, put_there, put_behind}
 use Rattle.history.specs.declared.Appearance.{Appearance}
+use Rattle.history.specs.declared.Break.TheVariants.{ClockBack, NewLock}
 use Rattle.history.specs.declared.Last as words
 use Rattle.history.specs.Words.{history_words, last_at, type_in, last_in, put_last, fresh_words}
 use Rattle.history.specs.Breaks.{said_of, entry_of, entry_for, replaced, entry_at}
@@ -103,7 +105,7 @@ module _ (type : ℕ) (before : List Appearance) (ws : List ℕ) (h : Keeps type
       go never kept z = rw (eq-eqb kept.seen 0 z)
       go (last b) kept z = ap (λ k. entry_for a (said_of k a.time a.lock)) z ∙ said (ltb a.time b.time) (ltb a.lock b.lock)
         where
-          said : (t l : Bool) → entry_for a (cond t 1 (cond l 2 0)) ≡ cond t (entry_of a 1 ∷ []) (cond l (entry_of a 2 ∷ []) [])
+          said : (t l : Bool) → entry_for a (cond t (Some ClockBack) (cond l (Some NewLock) None)) ≡ cond t (entry_of a 1 ∷ []) (cond l (entry_of a 2 ∷ []) [])
           said true l = refl
           said false true = refl
           said false false = refl

@@ -1,4 +1,5 @@
 -- Each entry refuses by document 01's numbers: each number under its condition and no other, and 0 where none holds. Assumes nothing.
+use Rattle.std.specs.Prelude.{Result, Ok, Err}
 use Prim.Native.Nat.{ℕ, ◌-◌, ◌≤◌}
 use mathlib.Core.Path.{◌≡◌, refl, sym, ap, ◌∙◌}
 use mathlib.Core.Bool.{Bool, true, false, cond, ◌&&◌, true≢false}
@@ -16,10 +17,6 @@ use Rattle.refusal.proofs.Numbered.{positive}
 use Rattle.macm.specs.declared.Form.{Form}
 use Rattle.macm.specs.declared.Form.TheVariants.{New, Old}
 use Rattle.macm.specs.declared.Header.{Header}
-use Rattle.macm.specs.declared.Head.{Head}
-use Rattle.macm.specs.declared.Head.TheVariants.{Refused as NoHead, Read as Headed}
-use Rattle.macm.specs.declared.Verdict.{Verdict}
-use Rattle.macm.specs.declared.Verdict.TheVariants.{Refused, Accepted}
 use Rattle.macm.specs.Form.{new_sync, old_sync, lead, count_at, size}
 use Rattle.macm.specs.Check.{agrees, shape_as, shape_by, shape_of, verdict}
 use Rattle.macm.specs.Answers.{check_number}
@@ -27,7 +24,6 @@ use Rattle.macm.specs.Read.{header_of, claimed_head, head_of, observed_as, obser
 use Rattle.macm.proofs.CheckSteps.{five, is_new, is_old, is_neither, too_short, shaped_by, wrong_length, right_length, shaped, refuses, accepts, wrong_checksum, fine}
 use Rattle.macm.proofs.ReadSteps.{claimed_refused, claimed_there, head_refused, head_accepted, observed_refused, observed_accepted, observed_other_length, observed_there, observed_far}
 use Rattle.macm.proofs.Leads.{lead_of}
-use Rattle.refusal.specs.declared.Written.TheVariants.{Refused as NotWritten, Length}
 use Rattle.refusal.specs.Written.{written_number}
 use Rattle.compose.specs.Start.{start_of}
 use Rattle.compose.specs.Set.{set_by, set_of}
@@ -38,11 +34,10 @@ use Rattle.history.specs.Breaks.{Kept, after_all, begun}
 use Rattle.history.specs.Calls.{refusing, listing, call_by, next_call, claimed_call}
 use Rattle.division.specs.Division.{Division, last, part as onward, divide}
 use Rattle.division.specs.Plain.{first_of, next_of}
-use Rattle.division.specs.declared.Next.TheVariants.{Refused as NotFound}
 use Rattle.front.specs.declared.Claim.{Claim}
 use Rattle.front.specs.declared.Claim.TheVariants.{Nothing, AtLeast, Long}
 use Rattle.front.specs.Claim.{claim}
-use Rattle.reason.specs.declared.Reason.TheVariants.{Refused as NoReason, Inside, Given, CutShort, Checksum}
+use Rattle.reason.specs.declared.Reason.TheVariants.{Inside, Given, CutShort, Checksum}
 use Rattle.reason.specs.Reason.{residue_of, summed, said_by, here_of, cover_of, reason_of}
 use Rattle.reason.proofs.HereSteps.{here_some}
 use Rattle.stream.specs.declared.State.{State}
@@ -52,14 +47,12 @@ use Rattle.stream.specs.Steps.{Allowed}
 use Rattle.stream.proofs.Cases.{Small, Bad, finish_cases, feed_cases}
 use Rattle.bits.specs.Fields.{cut}
 use Rattle.novatel.specs.declared.Record.{Record}
-use Rattle.novatel.specs.declared.Reading.TheVariants.{Refused as NoRecord, Read}
-use Rattle.novatel.specs.declared.Correction.{Correction}
-use Rattle.novatel.specs.declared.Correction.TheVariants.{Refused as NotCorrected, Corrected}
 use Rattle.novatel.specs.Record.{record_of, fits}
 use Rattle.novatel.specs.Entries.{reading_of, writing_of, says_gps, correction_in, correction_of}
 use Rattle.novatel.specs.Rolls.{rolls_of, corrected_of}
 use Rattle.promises.proofs.RecordBack.{fitting, holding}
 use Rattle.promises.specs.Numbers.{head_number, observed_number, breaks_number, next_number, reason_number, record_number, correction_number, answer_number, OfForm, AfterShape, Differs, CheckTable, ClaimedTable, HeadTable, Index, IndexTable, KnownTable, Room, StartTable, ConvertTable, Listable, BreaksTable, ClaimedBreaksTable, NextTable, ReasonTable, Buffers, Sound, FinishTable, FeedTable, RecordTable, CorrectionTable, RecordWriteTable}
+use Rattle.novatel.specs.declared.Corrected.{Corrected}
 
 -- ---- the message check
 module _ (m : List ℕ) where
@@ -91,7 +84,7 @@ module _ (m : List ℕ) where
       go (Old v) = refl
 
   -- 1 to 3, of any answer that gives them as the check does before its checksum
-  module _ (T : ℕ → Type 0) (i : ℕ) (refused : (r : Refusal) → shape_of m ≡ Refused r → i ≡ number_of r) (shaped-so : (f : Form) (n : ℕ) → shape_of m ≡ Accepted f n → T i) where
+  module _ (T : ℕ → Type 0) (i : ℕ) (refused : (r : Refusal) → shape_of m ≡ Err r → i ≡ number_of r) (shaped-so : (f : Form) (n : ℕ) → shape_of m ≡ Ok (f, n) → T i) where
     of_form : (f : Form) → take 4 m ≡ take 4 (lead f) → shape_of m ≡ shape_as f m → OfForm T f m i
     of_form f sync e = (sync, go (eqb (length m) s) refl)
       where
@@ -132,7 +125,7 @@ module _ (m : List ℕ) where
   pub check_table : CheckTable m (check_number (verdict m))
   check_table = after_shape (λ i. ((i ≡ 4) × Differs m) ⊎ ((i ≡ 0) × (Differs m → ⊥))) (check_number (verdict m)) (λ r e. ap check_number (sym (refuses m r e))) (λ f n e. summed f n e (agrees m) refl)
     where
-      summed : (f : Form) (n : ℕ) → shape_of m ≡ Accepted f n → (b : Bool) → agrees m ≡ b
+      summed : (f : Form) (n : ℕ) → shape_of m ≡ Ok (f, n) → (b : Bool) → agrees m ≡ b
           → ((check_number (verdict m) ≡ 4) × Differs m) ⊎ ((check_number (verdict m) ≡ 0) × (Differs m → ⊥))
       summed f n e false q = inl (ap check_number (sym (wrong_checksum m f n e q)), checksum_differs (omega (arith, five f, (shaped m f n e).long)) q)
       summed f n e true q = inr (ap check_number (sym (accepts m f n e q)), checksum_agrees (omega (arith, five f, (shaped m f n e).long)) q)
@@ -144,9 +137,9 @@ module _ (m : List ℕ) where
 pub head_table : (m : List ℕ) → HeadTable m (head_number (head_of m))
 head_table m = go (verdict m) refl
   where
-    go : (v : Verdict) → verdict m ≡ v → HeadTable m (head_number (head_of m))
-    go (Refused r) e = let z = ap head_number (sym (head_refused m r e)) in inl (z ∙ ap check_number (sym e), rw z (positive r))
-    go (Accepted f k) e = inr (f, k, e, ap head_number (sym (head_accepted m f k e)))
+    go : (v : Result (Form × ℕ) Refusal) → verdict m ≡ v → HeadTable m (head_number (head_of m))
+    go (Err r) e = let z = ap head_number (sym (head_refused m r e)) in inl (z ∙ ap check_number (sym e), rw z (positive r))
+    go (Ok (f, k)) e = inr (f, k, e, ap head_number (sym (head_accepted m f k e)))
 
 pub known_table : (f : Form) (k : ℕ) (m : List ℕ) (j : ℕ) → KnownTable f k m j (observed_number (observed_as f k m j))
 known_table f k m j = go (eqb (length m) (size f k)) refl (ltb j k) refl
@@ -159,30 +152,30 @@ known_table f k m j = go (eqb (length m) (size f k)) refl (ltb j k) refl
 pub observed_table : (m : List ℕ) (j : ℕ) → IndexTable m j (observed_number (observed_of m j))
 observed_table m j = go (verdict m) refl
   where
-    long : (f : Form) (k : ℕ) → verdict m ≡ Accepted f k → KnownTable f k m j (observed_number (observed_as f k m j)) → Index k j (observed_number (observed_as f k m j))
+    long : (f : Form) (k : ℕ) → verdict m ≡ Ok (f, k) → KnownTable f k m j (observed_number (observed_as f k m j)) → Index k j (observed_number (observed_as f k m j))
     long f k e (inl n) = absurd (n.1 (fine m f k e).long)
     long f k e (inr t) = t.1
 
-    go : (v : Verdict) → verdict m ≡ v → IndexTable m j (observed_number (observed_of m j))
-    go (Refused r) e = let z = ap observed_number (sym (observed_refused m j r e)) in inl (z ∙ ap check_number (sym e), rw z (positive r))
-    go (Accepted f k) e = inr (f, k, e, rw (← (observed_accepted m j f k e)) (long f k e (known_table f k m j)))
+    go : (v : Result (Form × ℕ) Refusal) → verdict m ≡ v → IndexTable m j (observed_number (observed_of m j))
+    go (Err r) e = let z = ap observed_number (sym (observed_refused m j r e)) in inl (z ∙ ap check_number (sym e), rw z (positive r))
+    go (Ok (f, k)) e = inr (f, k, e, rw (← (observed_accepted m j f k e)) (long f k e (known_table f k m j)))
 
 pub set_table : (m : List ℕ) (j : ℕ) → IndexTable m j (written_number (set_of m j))
 unfolding set_of set_by
 set_table m j = go (verdict m) refl
   where
-    go : (v : Verdict) → verdict m ≡ v → IndexTable m j (written_number (set_by v m j))
-    go (Refused r) e = inl (ap check_number (sym e), positive r)
-    go (Accepted f k) e = inr (f, k, e, test (ltb j k) refl)
+    go : (v : Result (Form × ℕ) Refusal) → verdict m ≡ v → IndexTable m j (written_number (set_by v m j))
+    go (Err r) e = inl (ap check_number (sym e), positive r)
+    go (Ok (f, k)) e = inr (f, k, e, test (ltb j k) refl)
       where
-        test : (a : Bool) → ltb j k ≡ a → Index k j (written_number (cond a (Length (length m)) (NotWritten NoObservation)))
+        test : (a : Bool) → ltb j k ≡ a → Index k j (written_number (cond a (Ok (length m)) (Err NoObservation)))
         test true p = inr (refl, ltb-true j k p)
         test false p = inl (refl, ltb-false j k p)
 
-room_table : (needed there : ℕ) → Room needed there (written_number (cond (leb needed there) (Length needed) (NotWritten NoRoom)))
+room_table : (needed there : ℕ) → Room needed there (written_number (cond (leb needed there) (Ok needed) (Err NoRoom)))
 room_table needed there = go (leb needed there) refl
   where
-    go : (a : Bool) → leb needed there ≡ a → Room needed there (written_number (cond a (Length needed) (NotWritten NoRoom)))
+    go : (a : Bool) → leb needed there ≡ a → Room needed there (written_number (cond a (Ok needed) (Err NoRoom)))
     go true p = inr (refl, leb-true needed there p)
     go false p = inl (refl, leb-false needed there p)
 
@@ -194,19 +187,19 @@ pub convert_table : (g : Form) (m out : List ℕ) → ConvertTable g m out (writ
 unfolding convert_of convert_by
 convert_table g m out = go (verdict m) refl
   where
-    go : (v : Verdict) → verdict m ≡ v → ConvertTable g m out (written_number (convert_by v g out))
-    go (Refused r) e = inl (ap check_number (sym e), positive r)
-    go (Accepted f k) e = inr (f, k, e, test (allowed f g) refl)
+    go : (v : Result (Form × ℕ) Refusal) → verdict m ≡ v → ConvertTable g m out (written_number (convert_by v g out))
+    go (Err r) e = inl (ap check_number (sym e), positive r)
+    go (Ok (f, k)) e = inr (f, k, e, test (allowed f g) refl)
       where
         test : (a : Bool) → allowed f g ≡ a
-            → let i = written_number (cond a (cond (leb (size g k) (length out)) (Length (size g k)) (NotWritten NoRoom)) (NotWritten OtherForm)) in
+            → let i = written_number (cond a (cond (leb (size g k) (length out)) (Ok (size g k)) (Err NoRoom)) (Err OtherForm)) in
             ((i ≡ 7) × (allowed f g ≡ false)) ⊎ ((allowed f g ≡ true) × Room (size g k) (length out) i)
         test true p = inr (p, room_table (size g k) (length out))
         test false p = inl (refl, p)
 
 -- ---- breaks of lock
 module _ (m ws list : List ℕ) where
-  list_table : (h : Header) (n : ℕ) → Listable list (breaks_number (call_by (Headed h n) m ws list).answer)
+  list_table : (h : Header) (n : ℕ) → Listable list (breaks_number (call_by (Ok (h, n)) m ws list).answer)
   unfolding call_by
   list_table h n = go (ltb (length list) 765) refl (after_all (begun ws) (appearances_in (type_in ws) h n m))
     where
@@ -214,16 +207,16 @@ module _ (m ws list : List ℕ) where
       go true p k = inl (refl, ltb-true (length list) 765 p)
       go false p k = inr (refl, ltb-false (length list) 765 p)
 
-  refused_head : (head : Head) (r : Refusal) → NoHead r ≡ head → breaks_number (call_by head m ws list).answer ≡ number_of r
+  refused_head : (head : Result (Header × ℕ) Refusal) (r : Refusal) → Err r ≡ head → breaks_number (call_by head m ws list).answer ≡ number_of r
   unfolding call_by
   refused_head head r e = ap (λ h. breaks_number (call_by h m ws list).answer) (sym e)
 
   pub breaks_table : BreaksTable m list (breaks_number (next_call m ws list).answer)
   breaks_table = go (verdict m) refl
     where
-      go : (v : Verdict) → verdict m ≡ v → BreaksTable m list (breaks_number (next_call m ws list).answer)
-      go (Refused r) e = let z = refused_head (head_of m) r (head_refused m r e) in inl (z ∙ ap check_number (sym e), rw z (positive r))
-      go (Accepted f k) e = inr (f, k, e, rw (sym (head_accepted m f k e)) (list_table (header_of f m) k))
+      go : (v : Result (Form × ℕ) Refusal) → verdict m ≡ v → BreaksTable m list (breaks_number (next_call m ws list).answer)
+      go (Err r) e = let z = refused_head (head_of m) r (head_refused m r e) in inl (z ∙ ap check_number (sym e), rw z (positive r))
+      go (Ok (f, k)) e = inr (f, k, e, rw (sym (head_accepted m f k e)) (list_table (header_of f m) k))
 
   pub claimed_breaks_table : ClaimedBreaksTable m list (breaks_number (claimed_call m ws list).answer)
   claimed_breaks_table =
@@ -235,19 +228,19 @@ pub next_table : (s : List ℕ) (start : ℕ) → NextTable s start (next_number
 unfolding next_of
 next_table s start = go (ltb (length s) start) refl (divide (drop start s) 0)
   where
-    go : (a : Bool) → ltb (length s) start ≡ a → (d : Division) → NextTable s start (next_number (cond a (NotFound PastEnd) (first_of start d)))
+    go : (a : Bool) → ltb (length s) start ≡ a → (d : Division) → NextTable s start (next_number (cond a (Err PastEnd) (Ok (first_of start d))))
     go true p d = inl (refl, ltb-true (length s) start p)
     go false p (last g) = inr (refl, ltb-false (length s) start p)
     go false p (onward g m d) = inr (refl, ltb-false (length s) start p)
 
 -- ---- the reason at a position
-said_number : (c : Claim) (xs : List ℕ) → reason_number (said_by c xs) ≡ 0
+said_number : (c : Claim) (xs : List ℕ) → reason_number (Ok (said_by c xs)) ≡ 0
 unfolding said_by summed
 said_number Nothing xs = refl
 said_number (AtLeast k) xs = refl
 said_number (Long n) xs = go (leb n (length xs)) (eqb (residue_of n xs) 0)
   where
-    go : (a b : Bool) → reason_number (cond a (cond b (Given n) (Checksum (residue_of n xs))) (CutShort (n - length xs))) ≡ 0
+    go : (a b : Bool) → reason_number (Ok (cond a (cond b (Given n) (Checksum (residue_of n xs))) (CutShort (n - length xs)))) ≡ 0
     go true true = refl
     go true false = refl
     go false b = refl
@@ -256,7 +249,7 @@ pub reason_table : (s : List ℕ) (p : ℕ) → ReasonTable s p (reason_number (
 unfolding reason_of
 reason_table s p = go (ltb p (length s)) refl (ltb (cover_of s p) p)
   where
-    go : (a : Bool) → ltb p (length s) ≡ a → (b : Bool) → ReasonTable s p (reason_number (cond a (cond b (Inside (cover_of s p)) (here_of (drop p s))) (NoReason PastEnd)))
+    go : (a : Bool) → ltb p (length s) ≡ a → (b : Bool) → ReasonTable s p (reason_number (cond a (cond b (Ok (Inside (cover_of s p))) (here_of (drop p s))) (Err PastEnd)))
     go false e b = inl (refl, ltb-false p (length s) e)
     go true e true = inr (refl, ltb-true p (length s) e)
     go true e false =
@@ -268,7 +261,7 @@ pub record_table : (s : List ℕ) → RecordTable s (record_number (reading_of s
 unfolding reading_of
 record_table s = go (eqb (length s) 24) refl
   where
-    go : (a : Bool) → eqb (length s) 24 ≡ a → RecordTable s (record_number (cond a (Read (record_of s)) (NoRecord OtherLength)))
+    go : (a : Bool) → eqb (length s) 24 ≡ a → RecordTable s (record_number (cond a (Ok (record_of s)) (Err OtherLength)))
     go true p = inr (refl, eqb-true (length s) 24 p)
     go false p = inl (refl, eqb-false (length s) 24 p)
 
@@ -279,11 +272,11 @@ correction_table s = go (eqb (length s) 24) refl (eqb (cut 16 3 status) 0) refl 
     status : ℕ
     status = (record_of s).status
 
-    there : Correction
-    there = Corrected (rolls_of (record_of s).range (record_of s).adr) (corrected_of (record_of s).range (record_of s).adr)
+    there : Result Corrected Refusal
+    there = Ok (record { rolls = rolls_of (record_of s).range (record_of s).adr; adr = corrected_of (record_of s).range (record_of s).adr })
 
     go : (a : Bool) → eqb (length s) 24 ≡ a → (b : Bool) → eqb (cut 16 3 status) 0 ≡ b → (c : Bool) → eqb (cut 21 5 status) 0 ≡ c
-        → CorrectionTable s (correction_number (cond a (cond (b && c) there (NotCorrected OtherSignal)) (NotCorrected OtherLength)))
+        → CorrectionTable s (correction_number (cond a (cond (b && c) there (Err OtherSignal)) (Err OtherLength)))
     go false p b q c r = inl (refl, eqb-false (length s) 24 p)
     go true p false q c r = inr (eqb-true (length s) 24 p, inl (refl, λ g. eqb-false (cut 16 3 status) 0 q g.0))
     go true p true q false r = inr (eqb-true (length s) 24 p, inl (refl, λ g. eqb-false (cut 21 5 status) 0 r g.1))
@@ -293,7 +286,7 @@ pub record_write_table : (r : Record) (out : List ℕ) → RecordWriteTable r ou
 unfolding writing_of
 record_write_table r out = go (fits r) refl
   where
-    go : (a : Bool) → fits r ≡ a → RecordWriteTable r out (written_number (cond a (cond (leb 24 (length out)) (Length 24) (NotWritten NoRoom)) (NotWritten TooWide)))
+    go : (a : Bool) → fits r ≡ a → RecordWriteTable r out (written_number (cond a (cond (leb 24 (length out)) (Ok 24) (Err NoRoom)) (Err TooWide)))
     go true p = inr (fitting r p, room_table 24 (length out))
     go false p = inl (refl, λ h. true≢false (sym (holding r h) ∙ p))
 

@@ -1,4 +1,5 @@
 -- Of a message that the division gives, the programs print what the two readings say, though they run no checksum again. Assumes nothing.
+use Rattle.std.specs.Prelude.{Result, Ok, Err}
 use Prim.Native.Nat.{ℕ, zero, suc}
 use mathlib.Core.Path.{◌≡◌, refl, sym, ap, ap₂, ◌∙◌}
 use mathlib.Core.List.{List, ◌++◌}
@@ -6,8 +7,6 @@ use native.Mathlib.Omega.{arith}
 use lib.ListN.{length}
 use Rattle.refusal.proofs.Numbered.{positive}
 use Rattle.macm.specs.declared.Form.{Form}
-use Rattle.macm.specs.declared.Verdict.{Verdict}
-use Rattle.macm.specs.declared.Verdict.TheVariants.{Refused, Accepted}
 use Rattle.macm.specs.Check.{verdict}
 use Rattle.macm.specs.Answers.{check_number}
 use Rattle.macm.specs.Read.{header_of}
@@ -18,9 +17,10 @@ use Rattle.promises.specs.Given.{Given}
 use Rattle.promises.specs.Reason.{messages}
 use Rattle.promises.specs.Printed.{line_read, rows_read_up_to, rows_read_by, rows_read}
 use Rattle.promises.proofs.GivenIff.{valid_if_given}
+use Rattle.refusal.specs.declared.Refusal.{Refusal}
 
 module _ (position : ℕ) (m : List ℕ) where
-  module _ (f : Form) (n : ℕ) (accepted : verdict m ≡ Accepted f n) where
+  module _ (f : Form) (n : ℕ) (accepted : verdict m ≡ Ok (f, n)) where
     rows_up_to_lem : (k : ℕ) (head : List ℕ) → rows_up_to k head f n m ≡ rows_read_up_to k head f m
     unfolding rows_up_to rows_read_up_to
     rows_up_to_lem zero head = refl
@@ -32,12 +32,12 @@ module _ (position : ℕ) (m : List ℕ) where
         let h = head_accepted m f n accepted in
         ap (λ r. head_rows position r m) (claimed_head_lem m f n accepted ∙ sym h) ∙ rows_up_to_lem n (head_text position (header_of f m)) ∙ ap (λ r. rows_read_by position r m) h
 
-  read_so : {A : Type 0} (x y : A) → ((f : Form) (n : ℕ) → verdict m ≡ Accepted f n → x ≡ y) → check_number (verdict m) ≡ 0 → x ≡ y
+  read_so : {A : Type 0} (x y : A) → ((f : Form) (n : ℕ) → verdict m ≡ Ok (f, n) → x ≡ y) → check_number (verdict m) ≡ 0 → x ≡ y
   read_so {A} x y as_read = go (verdict m) refl
     where
-      go : (v : Verdict) → verdict m ≡ v → check_number v ≡ 0 → x ≡ y
-      go (Refused r) e z = absurd (omega (arith, positive r))
-      go (Accepted f n) e z = as_read f n e
+      go : (v : Result (Form × ℕ) Refusal) → verdict m ≡ v → check_number v ≡ 0 → x ≡ y
+      go (Err r) e z = absurd (omega (arith, positive r))
+      go (Ok (f, n)) e z = as_read f n e
 
   module _ (recording : List ℕ) (given : Given (messages recording) position m) where
     accepted : check_number (verdict m) ≡ 0

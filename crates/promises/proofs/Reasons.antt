@@ -1,4 +1,5 @@
 -- E1, clause by clause: the reason at a position of a recording. Assumes nothing.
+use Rattle.std.specs.Prelude.{Result}
 use Prim.Native.Nat.{ℕ, ◌-◌, ◌≤◌, ◌<◌}
 use mathlib.Core.Path.{◌≡◌, sym, ap, ◌∙◌}
 use mathlib.Core.List.{List}
@@ -12,13 +13,14 @@ use Rattle.promises.specs.Reason.{messages, Holds, shifted, CoverBegins}
 use Rattle.promises.proofs.FirstBytes.{here_front}
 use Rattle.promises.proofs.ReasonHolds.{here_of_lem, holds, only}
 use Rattle.promises.proofs.ReasonOfPart.{part_says}
+use Rattle.refusal.specs.declared.Refusal.{Refusal}
 
 -- what it says of the position is true of the division and of the bytes
 pub reason_holds : (s : List ℕ) (p : ℕ) → Bytes s → Holds s p (reason_of s p)
 reason_holds s p b = holds s p b
 
 -- and just one applies
-pub just_one : (s : List ℕ) (p : ℕ) → Bytes s → (a b : Reason) → Holds s p a → Holds s p b → a ≡ b
+pub just_one : (s : List ℕ) (p : ℕ) → Bytes s → (a b : Result Reason Refusal) → Holds s p a → Holds s p b → a ≡ b
 just_one s p bytes a b h k = sym (only s p bytes a h) ∙ only s p bytes b k
 
 -- what is said of a position that no given message covers depends on the bytes from it on alone: of these on no more than the longest message has

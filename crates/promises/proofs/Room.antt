@@ -1,4 +1,5 @@
 -- The text of `why` has room in the buffer that the program puts it into: no line takes more than 20 bytes. Assumes nothing.
+use Rattle.std.specs.Prelude.{Result, Ok, Err}
 use Prim.Native.Nat.{ℕ, zero, suc, ◌+◌, ◌-◌, ◌*◌, ◌^◌, ◌≤◌, ◌<◌}
 use mathlib.Core.Path.{◌≡◌, refl}
 use mathlib.Core.Bool.{Bool, true, false, cond}
@@ -22,10 +23,11 @@ use Rattle.front.specs.declared.Claim.TheVariants.{Nothing, AtLeast, Long}
 use Rattle.front.specs.Claim.{claim}
 use Rattle.front.proofs.Bounds.{ClaimFact, claim_fact}
 use Rattle.reason.specs.declared.Reason.{Reason}
-use Rattle.reason.specs.declared.Reason.TheVariants.{Refused, Inside, Given, Sync, CutUnknown, CutShort, Checksum}
+use Rattle.reason.specs.declared.Reason.TheVariants.{Inside, Given, Sync, CutUnknown, CutShort, Checksum}
 use Rattle.reason.specs.Reason.{residue_of, summed, said_by, here_of, cover_of, reason_of}
 use Rattle.reason.proofs.HereSteps.{here_some}
 use Rattle.account.specs.Account.{said_text, reason_text, lines_of, account_text, report_text}
+use Rattle.refusal.specs.declared.Refusal.{Refusal}
 
 -- ---- numbers of five digits
 needed_within : (k j n : ℕ) → n < 10 ^ suc j → needed k n ≤ suc j
@@ -45,36 +47,36 @@ count_within : (w : List ℕ) (n b : ℕ) → n < 100000 → length (count_text 
 count_within w n b l = omega (arith, length-append w (number_text n b), number_within n b l)
 
 -- ---- a line
-abbrev Small : Reason → Type 0
-Small (Refused r) = Unit
-Small (Inside q) = q < 100000
-Small (Given n) = n < 100000
-Small (Sync k) = k < 100000
-Small CutUnknown = Unit
-Small (CutShort n) = n < 100000
-Small (Checksum residue) = Unit
+abbrev Small : Result Reason Refusal → Type 0
+Small (Err r) = Unit
+Small (Ok (Inside q)) = q < 100000
+Small (Ok (Given n)) = n < 100000
+Small (Ok (Sync k)) = k < 100000
+Small (Ok CutUnknown) = Unit
+Small (Ok (CutShort n)) = n < 100000
+Small (Ok (Checksum residue)) = Unit
 
-said_within : (r : Reason) → Small r → length (said_text r) ≤ 14
-said_within (Refused r) h = count_within (word "refused ") (number_of r) newline (omega (arith, two_digits r))
-said_within (Inside q) h = omega (arith, count_within (word "inside ") q newline h)
-said_within (Given n) h = omega (arith, count_within (word "given ") n newline h)
-said_within (Sync k) h = omega (arith, count_within (word "sync ") k newline h)
-said_within CutUnknown h = omega arith
-said_within (CutShort n) h = omega (arith, count_within (word "short ") n newline h)
-said_within (Checksum t) h = omega (arith, length-append (word "checksum ") (digits 16 2 t ++ (newline ∷ [])), length-append (digits 16 2 t) (newline ∷ []), length_digits 16 2 t)
+said_within : (r : Result Reason Refusal) → Small r → length (said_text r) ≤ 14
+said_within (Err r) h = count_within (word "refused ") (number_of r) newline (omega (arith, two_digits r))
+said_within (Ok (Inside q)) h = omega (arith, count_within (word "inside ") q newline h)
+said_within (Ok (Given n)) h = omega (arith, count_within (word "given ") n newline h)
+said_within (Ok (Sync k)) h = omega (arith, count_within (word "sync ") k newline h)
+said_within (Ok CutUnknown) h = omega arith
+said_within (Ok (CutShort n)) h = omega (arith, count_within (word "short ") n newline h)
+said_within (Ok (Checksum t)) h = omega (arith, length-append (word "checksum ") (digits 16 2 t ++ (newline ∷ [])), length-append (digits 16 2 t) (newline ∷ []), length_digits 16 2 t)
 
-line_within : (p : ℕ) (r : Reason) → p < 100000 → Small r → length (reason_text p r) ≤ 20
+line_within : (p : ℕ) (r : Result Reason Refusal) → p < 100000 → Small r → length (reason_text p r) ≤ 20
 line_within p r l h = omega (arith, length-append (number_text p space) (said_text r), number_within p space l, said_within r h)
 
 -- ---- all lines
-lines_within : (f : ℕ → Reason) (k : ℕ) → ((p : ℕ) → p < k → length (reason_text p (f p)) ≤ 20) → length (lines_of f 0 k) ≤ 20 * k
+lines_within : (f : ℕ → Result Reason Refusal) (k : ℕ) → ((p : ℕ) → p < k → length (reason_text p (f p)) ≤ 20) → length (lines_of f 0 k) ≤ 20 * k
 unfolding lines_of
 lines_within f zero h = omega arith
 lines_within f (suc k) h =
     let z : 0 + k ≡ k = omega arith in
     rw z (omega (arith, length-append (lines_of f 0 k) (reason_text k (f k)), lines_within f k (λ p l. h p (omega arith)), h k (omega arith)))
 
-said_small : (xs : List ℕ) (c : Claim) → ClaimFact xs c → Small (said_by c xs)
+said_small : (xs : List ℕ) (c : Claim) → ClaimFact xs c → Small (Ok (said_by c xs))
 unfolding said_by summed
 said_small xs Nothing h = go (ltb (common new_sync xs) (common old_sync xs))
   where
@@ -84,7 +86,7 @@ said_small xs Nothing h = go (ltb (common new_sync xs) (common old_sync xs))
 said_small xs (AtLeast k) h = tt
 said_small xs (Long n) h = go (leb n (length xs)) (eqb (residue_of n xs) 0)
   where
-    go : (a b : Bool) → Small (cond a (cond b (Given n) (Checksum (residue_of n xs))) (CutShort (n - length xs)))
+    go : (a b : Bool) → Small (Ok (cond a (cond b (Given n) (Checksum (residue_of n xs))) (CutShort (n - length xs))))
     go true true = omega (arith, h.1)
     go true false = tt
     go false b = omega (arith, h.1)
@@ -93,7 +95,7 @@ reason_small : (s : List ℕ) (p : ℕ) → p < length s → p < 100000 → Smal
 unfolding reason_of
 reason_small s p l m = go (ltb p (length s)) (ltb (cover_of s p) p) refl
   where
-    go : (a b : Bool) → ltb (cover_of s p) p ≡ b → Small (cond a (cond b (Inside (cover_of s p)) (here_of (drop p s))) (Refused PastEnd))
+    go : (a b : Bool) → ltb (cover_of s p) p ≡ b → Small (cond a (cond b (Ok (Inside (cover_of s p))) (here_of (drop p s))) (Err PastEnd))
     go true true e = omega (arith, ltb-true (cover_of s p) p e)
     go true false e = rw (here_some (drop p s) (λ z. omega (arith, length-drop p s))) (said_small (drop p s) (claim (drop p s)) (claim_fact (drop p s)))
     go false b e = tt

@@ -1,4 +1,5 @@
 -- E8's history worked out, and wrong versions that the request names: no such program meets the contract, each shown at one message. Assumes nothing.
+use Rattle.std.specs.Prelude.{Ok}
 use Prim.Native.Nat.{ℕ, suc}
 use mathlib.Core.Path.{◌≡◌, refl, sym, ap, ◌∙◌}
 use mathlib.Core.List.{List, [], ◌∷◌, ◌++◌}
@@ -14,7 +15,6 @@ use Rattle.macm.specs.Check.{form_of, agrees, shape_as, shape_by, shape_of, verd
 use Rattle.macm.specs.Observation.{observation_of}
 use Rattle.macm.specs.Read.{header_of, head_by, head_of, observed_as}
 use Rattle.history.specs.declared.Appearance.{Appearance}
-use Rattle.history.specs.declared.Breaks.TheVariants.{Listed}
 use Rattle.history.specs.Words.{put_last, fresh_words}
 use Rattle.history.specs.Appearances.{appearances_up_to, appearances_in}
 use Rattle.history.specs.Breaks.{Entry, numbers_of, after_all}
@@ -61,7 +61,7 @@ abbrev lent : List ℕ
 lent = replicate 765 0
 
 -- in a fresh history it has one break, a new lock, and SID 0 was seen then
-twice_listed : (next_call twice fresh lent).answer ≡ Listed 1
+twice_listed : (next_call twice fresh lent).answer ≡ Ok 1
 unfolding call_by appearances_in appearances_up_to after_all put_last fresh_words observed_as observation_of head_of head_by header_of verdict verdict_by shape_of shape_by shape_as form_of agrees fit checksum_from number_from
 twice_listed = refl
 
@@ -91,17 +91,17 @@ module _ (breaks : Program contracts.next_breaks.ended) (meets : Meets contracts
   abbrev asked : Args contracts.next_breaks.signature κs
   asked = (reference twice, (mutable fresh, (mutable lent, tt)))
 
-  listed : breaks.answers κs asked ≡ Listed 1
+  listed : breaks.answers κs asked ≡ Ok 1
   listed = (meets κs asked).answer ∙ twice_listed
 
   -- one that keeps the pair where a break is said
-  pub not_keeping_the_pair : ((κs : Lfts 3) (a : Args contracts.next_breaks.signature κs) (n : ℕ) → breaks.answers κs a ≡ Listed (suc n) → (breaks.leaves κs a).1.0 ≡ a.1.0.now) → ⊥
+  pub not_keeping_the_pair : ((κs : Lfts 3) (a : Args contracts.next_breaks.signature κs) (n : ℕ) → breaks.answers κs a ≡ Ok (suc n) → (breaks.leaves κs a).1.0 ≡ a.1.0.now) → ⊥
   not_keeping_the_pair keeps =
       let z : ◌≡◌ {A = ℕ} 0 1 = sym fresh_unseen ∙ ap (λ w. get_or w 1 0) (sym (keeps κs asked 0 listed) ∙ (meets κs asked).words) ∙ twice_seen in
       omega arith
 
   -- one that overlooks a second appearance in one message: in a fresh history there is no other break
-  pub not_overlooking_the_second : ((κs : Lfts 3) (a : Args contracts.next_breaks.signature κs) (n : ℕ) → a.1.0.now ≡ fresh_words 0 → breaks.answers κs a ≡ Listed n → n ≡ 0) → ⊥
+  pub not_overlooking_the_second : ((κs : Lfts 3) (a : Args contracts.next_breaks.signature κs) (n : ℕ) → a.1.0.now ≡ fresh_words 0 → breaks.answers κs a ≡ Ok n → n ≡ 0) → ⊥
   not_overlooking_the_second overlooks = let z : ◌≡◌ {A = ℕ} 1 0 = overlooks κs asked 1 refl listed in omega arith
 
 -- ---- and the contract does not shut out everything: what the definition says meets it

@@ -1,4 +1,5 @@
 -- The wrong versions that document 01 names: no such program meets the contract, each shown at an input or two. Assumes nothing.
+use Rattle.std.specs.Prelude.{Result, Ok, Err}
 use Prim.Native.Nat.{ℕ}
 use mathlib.Core.Path.{◌≡◌, refl, sym, ap, ◌∙◌}
 use mathlib.Core.List.{List, [], ◌∷◌, ◌++◌}
@@ -16,10 +17,6 @@ use Rattle.refusal.specs.declared.Refusal.{Refusal}
 use Rattle.refusal.proofs.Numbered.{positive}
 use Rattle.macm.specs.declared.Form.TheVariants.{New, Old}
 use Rattle.macm.specs.declared.Observation.{Observation}
-use Rattle.macm.specs.declared.Head.{Head}
-use Rattle.macm.specs.declared.Head.TheVariants.{Read as Headed}
-use Rattle.macm.specs.declared.Observed.{Observed}
-use Rattle.macm.specs.declared.Verdict.TheVariants.{Refused}
 use Rattle.macm.specs.Check.{form_of, agrees, shape_as, shape_by, shape_of, verdict_by, verdict}
 use Rattle.macm.specs.Observation.{observation_bytes}
 use Rattle.macm.specs.Read.{header_of, head_by, head_of, observed_as, observed_by, observed_of}
@@ -43,6 +40,7 @@ use Rattle.compose.specs.contracts as compose_contracts
 use Rattle.compose.proofs as compose
 use Rattle.stream.specs.contracts as stream_contracts
 use Rattle.stream.proofs as stream
+use Rattle.macm.specs.declared.Header.{Header}
 
 -- a reference to these bytes, wherever they stand, and one by which they may change
 abbrev reference : List ℕ → Bor (List ℕ)
@@ -61,27 +59,27 @@ unfolding All
 B_accepted = samples.1.1.1.0
 
 pub not_refusing_everything :
-    (check : Program macm_contracts.check.ended) → ((κs : Lfts 1) (a : Args macm_contracts.check.signature κs) → (r : Refusal) × (check.answers κs a ≡ Refused r)) →
+    (check : Program macm_contracts.check.ended) → ((κs : Lfts 1) (a : Args macm_contracts.check.signature κs) → (r : Refusal) × (check.answers κs a ≡ Err r)) →
     Meets macm_contracts.check.ended macm.check.Reads.Learnt check →
     ⊥
 not_refusing_everything check refuses meets =
     let κs : Lfts 1 = ([], tt) in
     let a : Args macm_contracts.check.signature κs = (reference A, tt) in
     let r = refuses κs a in
-    let z : check_number (verdict A) ≡ check_number (Refused r.0) = ap check_number (sym (meets κs a) ∙ r.1) in
+    let z : check_number (verdict A) ≡ check_number (Err r.0) = ap check_number (sym (meets κs a) ∙ r.1) in
     omega (arith, positive r.0, A_accepted, z)
 
 -- ---- a read of the header that gives one fixed answer, be it only of accepted messages: A and B are of different forms
-A_read : head_of A ≡ Headed (record { form = New 0 0; time = 245370000; offset = 0x407C1000 }) 0
+A_read : head_of A ≡ Ok (record { form = New 0 0; time = 245370000; offset = 0x407C1000 }, 0)
 unfolding head_of head_by header_of verdict verdict_by shape_of shape_by shape_as form_of agrees fit checksum_from number_from
 A_read = refl
 
-B_read : head_of B ≡ Headed (record { form = Old 2; time = 245370000; offset = 0x407C1000 }) 0
+B_read : head_of B ≡ Ok (record { form = Old 2; time = 245370000; offset = 0x407C1000 }, 0)
 unfolding head_of head_by header_of verdict verdict_by shape_of shape_by shape_as form_of agrees fit checksum_from number_from
 B_read = refl
 
 pub not_one_fixed_header :
-    (read : Program macm_contracts.read_header.ended) (fixed : Head) →
+    (read : Program macm_contracts.read_header.ended) (fixed : Result (Header × ℕ) Refusal) →
     ((κs : Lfts 1) (a : Args macm_contracts.read_header.signature κs) → check_number (verdict a.0.now) ≡ 0 → read.answers κs a ≡ fixed) →
     Meets macm_contracts.read_header.ended macm.read_header.Reads.Learnt read →
     ⊥
@@ -110,7 +108,7 @@ unfolding observed_of observed_by observed_as verdict verdict_by shape_of shape_
 second_read = refl
 
 pub not_one_fixed_observation :
-    (read : Program macm_contracts.read_observation.ended) (fixed : Observed) →
+    (read : Program macm_contracts.read_observation.ended) (fixed : Result Observation Refusal) →
     ((κs : Lfts 1) (a : Args macm_contracts.read_observation.signature κs) → check_number (verdict a.0.now) ≡ 0 → read.answers κs a ≡ fixed) →
     Meets macm_contracts.read_observation.ended macm.read_observation.Reads.Learnt read →
     ⊥
@@ -150,27 +148,27 @@ Fed κs s p = (s, (reference p, (mutable lent, (mutable lent, tt))))
 abbrev later : State
 later = record { held = 0; gap = 0; total = 16; ended = 0; summed = 0 }
 
-later_owes : (feed_call later A lent lent).answer ≡ Message 16 0 16
+later_owes : (feed_call later A lent lent).answer ≡ Ok (Message 16 0 16)
 unfolding feed_call feed_checked feed_checked_by checked feed fed scan scanned seen settle look look_by judged claim claim_by counted fit agrees checksum_from
 later_owes = refl
 
 pub not_only_the_first :
-    (feed : Program stream_contracts.feed.ended) → ((κs : Lfts 3) (a : Args stream_contracts.feed.signature κs) → (a.0.total ≡ 0 → ⊥) → (feed.answers κs a).answer ≡ NeedsMore) →
+    (feed : Program stream_contracts.feed.ended) → ((κs : Lfts 3) (a : Args stream_contracts.feed.signature κs) → (a.0.total ≡ 0 → ⊥) → (feed.answers κs a).answer ≡ (Ok NeedsMore)) →
     Meets stream_contracts.feed.ended stream.feed.Reads.Learnt feed →
     ⊥
 not_only_the_first feed only-needs meets =
     let κs : Lfts 3 = ([], ([], ([], tt))) in
     let a = Fed κs later A in
-    let p : NeedsMore ≡ Message 16 0 16 = sym (only-needs κs a (λ e. omega arith)) ∙ ap (λ r. r.answer) (meets κs a).reply ∙ later_owes in
+    let p : (Ok NeedsMore) ≡ Ok (Message 16 0 16) = sym (only-needs κs a (λ e. omega arith)) ∙ ap (λ r. r.answer) (meets κs a).reply ∙ later_owes in
     let z : ◌≡◌ {A = ℕ} 0 1 = cc in
     omega arith
 
 -- one that invents its gap or its taken counts, without regard to the bytes: a zero before A and a zero behind it differ in both
-before_owes : (feed_call fresh_state (0 ∷ A) lent lent).answer ≡ Message 16 1 17
+before_owes : (feed_call fresh_state (0 ∷ A) lent lent).answer ≡ Ok (Message 16 1 17)
 unfolding feed_call feed_checked feed_checked_by checked feed fed scan scanned seen settle look look_by judged claim claim_by counted fit agrees checksum_from
 before_owes = refl
 
-behind_owes : (feed_call fresh_state (A ++ (0 ∷ [])) lent lent).answer ≡ Message 16 0 16
+behind_owes : (feed_call fresh_state (A ++ (0 ∷ [])) lent lent).answer ≡ Ok (Message 16 0 16)
 unfolding feed_call feed_checked feed_checked_by checked feed fed scan scanned seen settle look look_by judged claim claim_by counted fit agrees checksum_from
 behind_owes = refl
 
@@ -178,16 +176,16 @@ module _ (feed : Program stream_contracts.feed.ended) (guess : State → ℕ →
   lifetimes : Lfts 3
   lifetimes = ([], ([], ([], tt)))
 
-  before : (feed.answers lifetimes (Fed lifetimes fresh_state (0 ∷ A))).answer ≡ Message 16 1 17
+  before : (feed.answers lifetimes (Fed lifetimes fresh_state (0 ∷ A))).answer ≡ Ok (Message 16 1 17)
   before = ap (λ r. r.answer) (meets lifetimes (Fed lifetimes fresh_state (0 ∷ A))).reply ∙ before_owes
 
-  behind : (feed.answers lifetimes (Fed lifetimes fresh_state (A ++ (0 ∷ [])))).answer ≡ Message 16 0 16
+  behind : (feed.answers lifetimes (Fed lifetimes fresh_state (A ++ (0 ∷ [])))).answer ≡ Ok (Message 16 0 16)
   behind = ap (λ r. r.answer) (meets lifetimes (Fed lifetimes fresh_state (A ++ (0 ∷ [])))).reply ∙ behind_owes
 
-  pub not_an_invented_gap : ((κs : Lfts 3) (a : Args stream_contracts.feed.signature κs) (n g t : ℕ) → (feed.answers κs a).answer ≡ Message n g t → g ≡ guess a.0 (length a.1.0.now)) → ⊥
+  pub not_an_invented_gap : ((κs : Lfts 3) (a : Args stream_contracts.feed.signature κs) (n g t : ℕ) → (feed.answers κs a).answer ≡ Ok (Message n g t) → g ≡ guess a.0 (length a.1.0.now)) → ⊥
   not_an_invented_gap invents = omega (arith, invents lifetimes _ 16 1 17 before, invents lifetimes _ 16 0 16 behind)
 
-  pub not_an_invented_taken_count : ((κs : Lfts 3) (a : Args stream_contracts.feed.signature κs) (n g t : ℕ) → (feed.answers κs a).answer ≡ Message n g t → t ≡ guess a.0 (length a.1.0.now)) → ⊥
+  pub not_an_invented_taken_count : ((κs : Lfts 3) (a : Args stream_contracts.feed.signature κs) (n g t : ℕ) → (feed.answers κs a).answer ≡ Ok (Message n g t) → t ≡ guess a.0 (length a.1.0.now)) → ⊥
   not_an_invented_taken_count invents = omega (arith, invents lifetimes _ 16 1 17 before, invents lifetimes _ 16 0 16 behind)
 
 -- ---- and no contract of these shuts out everything: what the definitions say meets it

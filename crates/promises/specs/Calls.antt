@@ -1,12 +1,13 @@
 -- A run of calls over the pieces of a stream, as a host makes them. Definitions only.
-use Rattle.std.specs.Prelude.{ℕ, zero, suc, ◌+◌, List, [], ◌∷◌, length, take, drop}
+use Rattle.std.specs.Prelude.{ℕ, zero, suc, ◌+◌, List, [], ◌∷◌, length, take, drop, Result, Ok, Err}
 use Rattle.division.specs.Division.{divide}
 use Rattle.promises.specs.Joined.{joined}
 use Rattle.promises.specs.Run.{Run, count, refused, unfinished, ended, gave}
 use Rattle.stream.specs.declared.State.{State}
 use Rattle.stream.specs.declared.Answer.{Answer}
-use Rattle.stream.specs.declared.Answer.TheVariants.{Refused, NeedsMore, Message, End}
+use Rattle.stream.specs.declared.Answer.TheVariants.{NeedsMore, Message, End}
 use Rattle.stream.specs.Reader.{Call, fresh_state, feed_call, finish_call}
+use Rattle.refusal.specs.declared.Refusal.{Refusal}
 
 -- the untaken rest of a piece is offered again; an empty rest is not
 unfoldable pub offer : List ℕ → List (List ℕ) → List (List ℕ)
@@ -25,17 +26,17 @@ behind g m later = record { run = gave g m later.run; state = later.state }
 abbrev pub Host : Type 0
 Host = State → List ℕ → List (List ℕ) → Made
 
-unfoldable pub after_feed : Host → List ℕ → List (List ℕ) → Answer → Call → Made
-after_feed go p ps (Refused r) c = record { run = refused r; state = c.state }
-after_feed go p ps NeedsMore c = go c.state c.window ps
-after_feed go p ps (Message n g t) c = behind g (take n c.output) (go c.state c.window (offer (drop t p) ps))
-after_feed go p ps (End g) c = record { run = unfinished; state = c.state }
+unfoldable pub after_feed : Host → List ℕ → List (List ℕ) → Result Answer Refusal → Call → Made
+after_feed go p ps (Err r) c = record { run = refused r; state = c.state }
+after_feed go p ps (Ok NeedsMore) c = go c.state c.window ps
+after_feed go p ps (Ok (Message n g t)) c = behind g (take n c.output) (go c.state c.window (offer (drop t p) ps))
+after_feed go p ps (Ok (End g)) c = record { run = unfinished; state = c.state }
 
-unfoldable pub after_finish : Host → Answer → Call → Made
-after_finish go (Refused r) c = record { run = refused r; state = c.state }
-after_finish go NeedsMore c = record { run = unfinished; state = c.state }
-after_finish go (Message n g t) c = behind g (take n c.output) (go c.state c.window [])
-after_finish go (End g) c = record { run = ended g; state = c.state }
+unfoldable pub after_finish : Host → Result Answer Refusal → Call → Made
+after_finish go (Err r) c = record { run = refused r; state = c.state }
+after_finish go (Ok NeedsMore) c = record { run = unfinished; state = c.state }
+after_finish go (Ok (Message n g t)) c = behind g (take n c.output) (go c.state c.window [])
+after_finish go (Ok (End g)) c = record { run = ended g; state = c.state }
 
 -- at most so many calls: the pieces in order, the rest of each again, then finishing until the end is answered. Each call is lent an output of its own:
 -- somebody else may touch it between calls

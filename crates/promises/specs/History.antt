@@ -1,21 +1,21 @@
 -- E8: the breaks of lock, over all messages so far, from the first: a list of messages to a list of lists. Definitions only.
-use Rattle.std.specs.Prelude.{ℕ, ◌≡◌, cond, List, [], ◌∷◌, ◌++◌, map, ltb, eqb}
+use Rattle.std.specs.Prelude.{ℕ, ◌≡◌, cond, List, [], ◌∷◌, ◌++◌, map, ltb, eqb, Result, Ok, Err}
 use Rattle.macm.specs.declared.Form.{Form}
 use Rattle.macm.specs.declared.Form.TheVariants.{New, Old}
 use Rattle.macm.specs.declared.Observation.{Observation}
-use Rattle.macm.specs.declared.Head.{Head}
-use Rattle.macm.specs.declared.Head.TheVariants.{Refused, Read}
 use Rattle.macm.specs.Read.{head_of}
 use Rattle.history.specs.declared.Appearance.{Appearance}
 use Rattle.history.specs.Appearances.{appears, is_of}
 use Rattle.history.specs.Breaks.{Entry, clock_back, new_lock, entry_of}
 use Rattle.promises.specs.Again.{observations_of}
+use Rattle.macm.specs.declared.Header.{Header}
+use Rattle.refusal.specs.declared.Refusal.{Refusal}
 
 -- ---- the appearances of SIDs in a message, in order: each observation's, with the time of the message
 -- old messages and other TYPEs are passed over, and so is what is no message
-abbrev pub seen_by : ℕ → Head → List Observation → List Appearance
-seen_by type (Refused r) os = []
-seen_by type (Read h n) os = cond (is_of type h.form) (map (appears h.time) os) []
+abbrev pub seen_by : ℕ → Result (Header × ℕ) Refusal → List Observation → List Appearance
+seen_by type (Err r) os = []
+seen_by type (Ok (h, n)) os = cond (is_of type h.form) (map (appears h.time) os) []
 
 abbrev pub seen_in : ℕ → List ℕ → List Appearance
 seen_in type m = seen_by type (head_of m) (observations_of m)

@@ -1,28 +1,25 @@
 -- E8: calls for breaks, one a message, as a host makes them. Definitions only.
-use Rattle.std.specs.Prelude.{ℕ, ◌*◌, ◌≡◌, List, [], ◌∷◌, length, take}
+use Rattle.std.specs.Prelude.{ℕ, ◌*◌, ◌≡◌, List, [], ◌∷◌, length, take, Result, Ok, Err}
 use Rattle.octets.specs.Numbers.{Bytes}
 use Rattle.refusal.specs.declared.Refusal.{Refusal}
-use Rattle.macm.specs.declared.Head.{Head}
-use Rattle.macm.specs.declared.Head.TheVariants.{Refused as NoHead, Read}
 use Rattle.macm.specs.Read.{head_of}
 use Rattle.macm.specs.Check.{verdict}
 use Rattle.macm.specs.Answers.{check_number}
-use Rattle.history.specs.declared.Breaks.{Breaks}
-use Rattle.history.specs.declared.Breaks.TheVariants.{Refused, Listed}
 use Rattle.history.specs.Words.{fresh_words}
 use Rattle.history.specs.Breaks.{Entry, numbers_of}
 use Rattle.history.specs.Calls.{next_call}
 use Rattle.promises.specs.Run.{Run}
 use Rattle.promises.specs.Run as run
+use Rattle.macm.specs.declared.Header.{Header}
 
 -- what a call gives: a refusal, or the numbers that it says are listed
 pub data Told : Type 0 where
   refused : Refusal → Told
   listed : List ℕ → Told
 
-abbrev pub told_by : Breaks → List ℕ → Told
-told_by (Refused r) list = refused r
-told_by (Listed n) list = listed (take (3 * n) list)
+abbrev pub told_by : Result ℕ Refusal → List ℕ → Told
+told_by (Err r) list = refused r
+told_by (Ok n) list = listed (take (3 * n) list)
 
 -- the history goes from call to call as each leaves it; each is lent a list of its own, in which anything may stand
 unfoldable pub calls_from : List ℕ → (ℕ → List ℕ) → List (List ℕ) → List Told
@@ -34,9 +31,9 @@ abbrev pub calls : ℕ → (ℕ → List ℕ) → List (List ℕ) → List Told
 calls type lists ms = calls_from (fresh_words type) lists ms
 
 -- what the messages' entries ask of the calls; what is no message is refused as reading its header refuses it
-abbrev pub owed_by : Head → List Entry → Told
-owed_by (NoHead r) entries = refused r
-owed_by (Read h n) entries = listed (numbers_of entries)
+abbrev pub owed_by : Result (Header × ℕ) Refusal → List Entry → Told
+owed_by (Err r) entries = refused r
+owed_by (Ok (h, n)) entries = listed (numbers_of entries)
 
 unfoldable pub owed : List (List ℕ) → List (List Entry) → List Told
 owed [] lists = []

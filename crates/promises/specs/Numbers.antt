@@ -1,83 +1,74 @@
 -- The numbers of documents 01 and 02, each with the condition under which an entry gives it, in the order of the tests. Definitions only.
-use Rattle.std.specs.Prelude.{ℕ, ◌+◌, ◌-◌, ◌^◌, ◌≤◌, ◌<◌, ◌≡◌, true, false, ◌⊎◌, List, length, get_or, take}
+use Rattle.std.specs.Prelude.{ℕ, ◌+◌, ◌-◌, ◌^◌, ◌≤◌, ◌<◌, ◌≡◌, true, false, ◌⊎◌, List, length, get_or, take, Result, Ok, Err}
 use Rattle.octets.specs.Checksum.{checksum_of}
 use Rattle.octets.specs.Parts.{part}
 use Rattle.refusal.specs.Numbers.{number_of}
 use Rattle.macm.specs.declared.Form.{Form}
 use Rattle.macm.specs.declared.Header.{Header}
-use Rattle.macm.specs.declared.Head.{Head}
-use Rattle.macm.specs.declared.Head.TheVariants.{Refused as NoHead, Read as Headed}
-use Rattle.macm.specs.declared.Observed.{Observed}
-use Rattle.macm.specs.declared.Observed.TheVariants.{Refused as NotObserved, Read as Seen}
-use Rattle.macm.specs.declared.Verdict.TheVariants.{Accepted}
 use Rattle.macm.specs.Form.{new_sync, old_sync, lead, count_at, size}
 use Rattle.macm.specs.Check.{verdict}
 use Rattle.macm.specs.Answers.{check_number}
-use Rattle.refusal.specs.declared.Written.{Written}
 use Rattle.refusal.specs.Written.{written_number}
 use Rattle.compose.specs.Convert.{allowed}
-use Rattle.history.specs.declared.Breaks.{Breaks}
-use Rattle.history.specs.declared.Breaks.TheVariants.{Refused as NotListed, Listed}
 use Rattle.history.specs.Calls as history
 use Rattle.division.specs.declared.Next.{Next}
-use Rattle.division.specs.declared.Next.TheVariants.{Refused as NotFound, Message as Found, End as NoneLeft}
+use Rattle.division.specs.declared.Next.TheVariants.{Message as Found, End as NoneLeft}
 use Rattle.reason.specs.declared.Reason.{Reason}
-use Rattle.reason.specs.declared.Reason.TheVariants.{Refused as NoReason, Inside, Given, Sync, CutUnknown, CutShort, Checksum}
+use Rattle.reason.specs.declared.Reason.TheVariants.{Inside, Given, Sync, CutUnknown, CutShort, Checksum}
 use Rattle.stream.specs.declared.State.{State}
 use Rattle.stream.specs.declared.Answer.{Answer}
-use Rattle.stream.specs.declared.Answer.TheVariants.{Refused, NeedsMore, Message, End}
+use Rattle.stream.specs.declared.Answer.TheVariants.{NeedsMore, Message, End}
 use Rattle.stream.specs.Reader.{Call}
 use Rattle.novatel.specs.declared.Record.{Record}
-use Rattle.novatel.specs.declared.Reading.{Reading as Recorded}
-use Rattle.novatel.specs.declared.Reading.TheVariants.{Refused as NoRecord, Read}
-use Rattle.novatel.specs.declared.Correction.{Correction}
-use Rattle.novatel.specs.declared.Correction.TheVariants.{Refused as NotCorrected, Corrected}
 use Rattle.novatel.specs.Record.{record_of}
 use Rattle.promises.specs.Record.{Holds, OfGps}
+use Rattle.macm.specs.declared.Observation.{Observation}
+use Rattle.novatel.specs.declared.Corrected.{Corrected}
+use Rattle.refusal.specs.declared.Refusal.{Refusal}
 
 -- ---- the number of an answer: 0 where it is no refusal
-abbrev pub head_number : Head → ℕ
-head_number (NoHead r) = number_of r
-head_number (Headed h n) = 0
+abbrev pub head_number : Result (Header × ℕ) Refusal → ℕ
+head_number (Err r) = number_of r
+head_number (Ok (h, n)) = 0
 
-abbrev pub observed_number : Observed → ℕ
-observed_number (NotObserved r) = number_of r
-observed_number (Seen o) = 0
+abbrev pub observed_number : Result Observation Refusal → ℕ
+observed_number (Err r) = number_of r
+observed_number (Ok o) = 0
 
-abbrev pub next_number : Next → ℕ
-next_number (NotFound r) = number_of r
-next_number (Found p n g) = 0
-next_number (NoneLeft g) = 0
+abbrev pub next_number : Result Next Refusal → ℕ
+next_number (Err r) = number_of r
+next_number (Ok (Found p n g)) = 0
+next_number (Ok (NoneLeft g)) = 0
 
-abbrev pub reason_number : Reason → ℕ
-reason_number (NoReason r) = number_of r
-reason_number (Inside q) = 0
-reason_number (Given n) = 0
-reason_number (Sync k) = 0
-reason_number CutUnknown = 0
-reason_number (CutShort n) = 0
-reason_number (Checksum residue) = 0
+abbrev pub reason_number : Result Reason Refusal → ℕ
+reason_number (Err r) = number_of r
+reason_number (Ok (Inside q)) = 0
+reason_number (Ok (Given n)) = 0
+reason_number (Ok (Sync k)) = 0
+reason_number (Ok CutUnknown) = 0
+reason_number (Ok (CutShort n)) = 0
+reason_number (Ok (Checksum residue)) = 0
 
-abbrev pub record_number : Recorded → ℕ
-record_number (NoRecord r) = number_of r
-record_number (Read r) = 0
+abbrev pub record_number : Result Record Refusal → ℕ
+record_number (Err r) = number_of r
+record_number (Ok r) = 0
 
-abbrev pub correction_number : Correction → ℕ
-correction_number (NotCorrected r) = number_of r
-correction_number (Corrected rolls adr) = 0
+abbrev pub correction_number : Result Corrected Refusal → ℕ
+correction_number (Err r) = number_of r
+correction_number (Ok c) = 0
 
-abbrev pub answer_number : Answer → ℕ
-answer_number (Refused r) = number_of r
-answer_number NeedsMore = 0
-answer_number (Message n g t) = 0
-answer_number (End g) = 0
+abbrev pub answer_number : Result Answer Refusal → ℕ
+answer_number (Err r) = number_of r
+answer_number (Ok NeedsMore) = 0
+answer_number (Ok (Message n g t)) = 0
+answer_number (Ok (End g)) = 0
 
-abbrev pub breaks_number : Breaks → ℕ
-breaks_number (NotListed r) = number_of r
-breaks_number (Listed n) = 0
+abbrev pub breaks_number : Result ℕ Refusal → ℕ
+breaks_number (Err r) = number_of r
+breaks_number (Ok n) = 0
 
 -- a call of writing refuses where its number is not 0
-abbrev pub Refuses : Written → Type 0
+abbrev pub Refuses : Result ℕ Refusal → Type 0
 Refuses w = (written_number w ≡ 0 → ⊥)
 
 -- a call of the stream reader whose number is not 0 leaves the state, the window and the output of its entry
@@ -113,7 +104,7 @@ ClaimedTable m n = AfterShape (λ i. i ≡ 0) m n
 
 -- 1 to 4 as the check says; of an accepted message what follows
 abbrev pub AfterCheck : (Form → ℕ → ℕ → Type 0) → List ℕ → ℕ → Type 0
-AfterCheck T m n = ((n ≡ check_number (verdict m)) × (0 < n)) ⊎ ((f : Form) × (k : ℕ) × (verdict m ≡ Accepted f k) × T f k n)
+AfterCheck T m n = ((n ≡ check_number (verdict m)) × (0 < n)) ⊎ ((f : Form) × (k : ℕ) × (verdict m ≡ Ok (f, k)) × T f k n)
 
 -- reading a header: 1 to 4 and nothing more
 abbrev pub HeadTable : List ℕ → ℕ → Type 0

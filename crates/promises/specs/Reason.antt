@@ -1,5 +1,5 @@
 -- What each reason says of a position of a recording: over the messages that the division gives, and the bytes themselves. Definitions only.
-use Rattle.std.specs.Prelude.{ℕ, ◌+◌, ◌-◌, ◌≤◌, ◌<◌, ◌≡◌, ◌⊎◌, List, length, get_or, take, drop}
+use Rattle.std.specs.Prelude.{ℕ, ◌+◌, ◌-◌, ◌≤◌, ◌<◌, ◌≡◌, ◌⊎◌, List, length, get_or, take, drop, Result, Ok, Err}
 use Rattle.octets.specs.Checksum.{checksum_of}
 use Rattle.octets.specs.Parts.{part}
 use Rattle.refusal.specs.declared.Refusal.TheVariants.{PastEnd}
@@ -7,9 +7,10 @@ use Rattle.macm.specs.declared.Form.{Form}
 use Rattle.macm.specs.Form.{lead, count_at, size}
 use Rattle.division.specs.Division.{divide}
 use Rattle.reason.specs.declared.Reason.{Reason}
-use Rattle.reason.specs.declared.Reason.TheVariants.{Refused, Inside, Given as GivenHere, Sync, CutUnknown, CutShort, Checksum}
+use Rattle.reason.specs.declared.Reason.TheVariants.{Inside, Given as GivenHere, Sync, CutUnknown, CutShort, Checksum}
 use Rattle.promises.specs.Run.{Run, as_run}
 use Rattle.promises.specs.Given.{Given, Uncovered}
+use Rattle.refusal.specs.declared.Refusal.{Refusal}
 
 -- the messages that the division of a recording gives
 abbrev pub messages : List ℕ → Run
@@ -54,26 +55,26 @@ pub record ChecksumOff (xs : List ℕ) (n residue : ℕ) : Type 0 where
   pub off : residue ≡ checksum_of (part 4 (n - 4) xs)
   pub never_zero : residue ≡ 0 → ⊥
 
-abbrev pub Holds : List ℕ → ℕ → Reason → Type 0
-Holds s p (Refused r) = (r ≡ PastEnd) × (length s ≤ p)
-Holds s p (Inside q) = (m : List ℕ) × Given (messages s) q m × (q < p) × (p < q + length m)
-Holds s p (GivenHere n) = (m : List ℕ) × Given (messages s) p m × (n ≡ length m)
-Holds s p (Sync k) = Free s p × FitsNeither (drop p s) k
-Holds s p CutUnknown = Free s p × EndsBeforeCount (drop p s)
-Holds s p (CutShort n) = Free s p × (1 ≤ n) × Claims (drop p s) (length (drop p s) + n)
-Holds s p (Checksum residue) = Free s p × ((n : ℕ) × ChecksumOff (drop p s) n residue)
+abbrev pub Holds : List ℕ → ℕ → Result Reason Refusal → Type 0
+Holds s p (Err r) = (r ≡ PastEnd) × (length s ≤ p)
+Holds s p (Ok (Inside q)) = (m : List ℕ) × Given (messages s) q m × (q < p) × (p < q + length m)
+Holds s p (Ok (GivenHere n)) = (m : List ℕ) × Given (messages s) p m × (n ≡ length m)
+Holds s p (Ok (Sync k)) = Free s p × FitsNeither (drop p s) k
+Holds s p (Ok CutUnknown) = Free s p × EndsBeforeCount (drop p s)
+Holds s p (Ok (CutShort n)) = Free s p × (1 ≤ n) × Claims (drop p s) (length (drop p s) + n)
+Holds s p (Ok (Checksum residue)) = Free s p × ((n : ℕ) × ChecksumOff (drop p s) n residue)
 
 -- ---- a part of the recording in its place
 
 -- the reason at a position that is counted from q on, counted from the recording's start
-abbrev pub shifted : ℕ → Reason → Reason
-shifted q (Refused r) = Refused r
-shifted q (Inside start) = Inside (q + start)
-shifted q (GivenHere n) = GivenHere n
-shifted q (Sync k) = Sync k
-shifted q CutUnknown = CutUnknown
-shifted q (CutShort n) = CutShort n
-shifted q (Checksum residue) = Checksum residue
+abbrev pub shifted : ℕ → Result Reason Refusal → Result Reason Refusal
+shifted q (Err r) = Err r
+shifted q (Ok (Inside start)) = Ok (Inside (q + start))
+shifted q (Ok (GivenHere n)) = Ok (GivenHere n)
+shifted q (Ok (Sync k)) = Ok (Sync k)
+shifted q (Ok CutUnknown) = (Ok CutUnknown)
+shifted q (Ok (CutShort n)) = Ok (CutShort n)
+shifted q (Ok (Checksum residue)) = Ok (Checksum residue)
 
 -- q is the first byte of the given message that covers p, or p itself where none does
 abbrev pub CoverBegins : List ℕ → ℕ → ℕ → Type 0

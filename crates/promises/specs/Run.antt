@@ -1,8 +1,8 @@
 -- Calls of a reader, one after the other, and what they come to. Definitions only.
-use Rattle.std.specs.Prelude.{ℕ, zero, suc, ◌+◌, List, length, take, drop}
+use Rattle.std.specs.Prelude.{ℕ, zero, suc, ◌+◌, List, length, take, drop, Result, Ok, Err}
 use Rattle.refusal.specs.declared.Refusal.{Refusal}
 use Rattle.division.specs.declared.Next.{Next}
-use Rattle.division.specs.declared.Next.TheVariants.{Refused, Message, End}
+use Rattle.division.specs.declared.Next.TheVariants.{Message, End}
 use Rattle.division.specs.Division.{Division, last, part}
 use Rattle.division.specs.Plain.{next_of}
 
@@ -45,10 +45,10 @@ lengths_and_gaps (ended g) = g
 lengths_and_gaps (gave g m r) = g + length m + lengths_and_gaps r
 
 -- the plain reader, at most so many calls: each from the end of the message before
-unfoldable pub read_on : List ℕ → (ℕ → Run) → Next → Run
-read_on s go (Refused r) = refused r
-read_on s go (Message p n g) = gave g (take n (drop p s)) (go (p + n))
-read_on s go (End g) = ended g
+unfoldable pub read_on : List ℕ → (ℕ → Run) → Result Next Refusal → Run
+read_on s go (Err r) = refused r
+read_on s go (Ok (Message p n g)) = gave g (take n (drop p s)) (go (p + n))
+read_on s go (Ok (End g)) = ended g
 
 unfoldable pub read_plain : ℕ → List ℕ → ℕ → Run
 read_plain zero s start = unfinished

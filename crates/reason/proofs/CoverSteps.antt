@@ -1,17 +1,19 @@
 -- Where a position is covered, from one message of the division to the next. Assumes nothing.
-use Prim.Native.Nat.{ℕ, ◌+◌, ◌-◌, ◌≤◌, ◌<◌}
+use Rattle.std.specs.Prelude.{Result, Ok, Err}
+use Prim.Native.Nat.{ℕ, min, ◌+◌, ◌≤◌, ◌<◌}
 use mathlib.Core.Path.{◌≡◌, refl, sym, ap, ◌∙◌}
 use mathlib.Core.Bool.{Bool, true, false, cond}
 use mathlib.Core.List.{List, ◌∷◌}
 use native.Mathlib.Omega.{arith}
 use native.Mathlib.Numerals.{add-one}
 use lib.ListN.{length, get_or, take, drop, length-drop}
-use lib.Seq.{length-take-le, take_all, drop-cons, drop-drop}
+use lib.Seq.{length-take-le, drop-cons, drop-drop}
 use lib.Dec.{ltb}
-use borrow.Author.Tests.{lt-ltb, le-ltb}
+use borrow.Author.Tests.{lt-ltb, le-ltb, ltb-true, ltb-false}
+use Rattle.refusal.specs.declared.Refusal.{Refusal}
 use Rattle.refusal.specs.declared.Refusal.TheVariants.{PastEnd}
 use Rattle.division.specs.declared.Next.{Next}
-use Rattle.division.specs.declared.Next.TheVariants.{Refused as NotFound, Message as Found, End as NoneLeft}
+use Rattle.division.specs.declared.Next.TheVariants.{Message as Found, End as NoneLeft}
 use Rattle.division.specs.declared.Walked.{Walked}
 use Rattle.division.specs.declared.Walked.TheVariants.{Message, Unsettled}
 use Rattle.division.specs.Division.{Division, last, part, stands, divide}
@@ -19,9 +21,8 @@ use Rattle.division.specs.Walk.{walk_of}
 use Rattle.division.specs.Plain.{next_of}
 use Rattle.division.proofs.DivideSteps.{divide_gap, divide_message}
 use Rattle.division.proofs.PlainSteps.{Ends, walk_ends, passed_is, next_given, next_end}
-use Rattle.reason.specs.declared.Reason.{Reason}
-use Rattle.reason.specs.declared.Reason.TheVariants.{Refused, Inside}
-use Rattle.reason.specs.Reason.{here_of, cover_in, cover_of, reason_of}
+use Rattle.reason.specs.declared.Reason.TheVariants.{Inside}
+use Rattle.reason.specs.Reason.{cover_in, cover_of, reason_of}
 
 -- nothing covers what stands before the division
 pub cover_before : (d : Division) (at p : ℕ) → p ≤ at → cover_in d at p ≡ p
@@ -44,8 +45,12 @@ module _ (s : List ℕ) (at p q n : ℕ) (h : Onward s at p q n) where
   pub covered_there : p < q + n → q < p → cover_in (divide (drop at s) 0) at p ≡ q
   covered_there l k = h.covers ∙ rw (lt-ltb p (q + n) l, lt-ltb q p k)
 
-  pub covered_by_none : p < q + n → p ≤ q → cover_in (divide (drop at s) 0) at p ≡ p
-  covered_by_none l k = h.covers ∙ rw (lt-ltb p (q + n) l, le-ltb q p k)
+  pub covered_here : p < q + n → cover_in (divide (drop at s) 0) at p ≡ min q p
+  covered_here l = h.covers ∙ rw (lt-ltb p (q + n) l) (go (ltb q p) refl)
+    where
+      go : (b : Bool) → ltb q p ≡ b → cond b q p ≡ min q p
+      go true e = omega (arith, ltb-true q p e)
+      go false e = omega (arith, ltb-false q p e)
 
   pub covered_onward : q + n ≤ p → cover_in (divide (drop at s) 0) at p ≡ cover_in (divide (drop (q + n) s) 0) (q + n) p
   covered_onward l = h.covers ∙ rw (le-ltb p (q + n) l)
@@ -84,10 +89,10 @@ module _ (s : List ℕ) (at p : ℕ) (l : at < length s) where
       record { from = omega arith; some = some; within = omega (arith, length-drop at s); covers = rw (d, length-take-le n (drop at s) here, z) }
 
 -- ---- what the plain reader's answer from a start on says of it
-abbrev Next_says : List ℕ → ℕ → ℕ → Next → Type 0
-Next_says s at p (NotFound r) = ⊥
-Next_says s at p (Found q n g) = Onward s at p q n
-Next_says s at p (NoneLeft g) = cover_in (divide (drop at s) 0) at p ≡ p
+abbrev Next_says : List ℕ → ℕ → ℕ → Result Next Refusal → Type 0
+Next_says s at p (Err r) = ⊥
+Next_says s at p (Ok (Found q n g)) = Onward s at p q n
+Next_says s at p (Ok (NoneLeft g)) = cover_in (divide (drop at s) 0) at p ≡ p
 
 module _ (s : List ℕ) (at p : ℕ) (l : at ≤ length s) where
   next_says : Next_says s at p (next_of s at)
@@ -102,30 +107,23 @@ module _ (s : List ℕ) (at p : ℕ) (l : at ≤ length s) where
       go (Unsettled k) f = rw (← next_end s at l k f, f.1 0)
 
   -- as the code has it
-  module _ (r : Next) (e : r ≡ next_of s at) where
-    pub found_says : (q n g : ℕ) → r ≡ Found q n g → Onward s at p q n
+  module _ (r : Result Next Refusal) (e : r ≡ next_of s at) where
+    pub found_says : (q n g : ℕ) → r ≡ Ok (Found q n g) → Onward s at p q n
     found_says q n g z = rw (← e, z) at next_says
 
-    pub none_says : ((q n g : ℕ) → r ≡ Found q n g → ⊥) → cover_in (divide (drop at s) 0) at p ≡ p
-    none_says t = go r t (rw (← e) at next_says)
-      where
-        go : (r : Next) → ((q n g : ℕ) → r ≡ Found q n g → ⊥) → Next_says s at p r → cover_in (divide (drop at s) 0) at p ≡ p
-        go (NotFound r) t h = absurd h
-        go (Found q n g) t h = absurd (t q n g refl)
-        go (NoneLeft g) t h = h
+    pub end_says : (g : ℕ) → r ≡ Ok (NoneLeft g) → cover_in (divide (drop at s) 0) at p ≡ p
+    end_says g z = rw (← e, z) at next_says
+
+    pub refused_says : (f : Refusal) → r ≡ Err f → cover_in (divide (drop at s) 0) at p ≡ p
+    refused_says f z = absurd (rw (← e, z) at next_says)
 
 -- ---- the reason at a position
 module _ (s : List ℕ) (p : ℕ) where
-  pub at_end : length s ≤ p → Refused PastEnd ≡ reason_of s p
+  pub at_end : length s ≤ p → Err PastEnd ≡ reason_of s p
   unfolding reason_of
   at_end l = rw (le-ltb p (length s) l)
 
   module _ (l : p < length s) (q : ℕ) (e : q ≡ cover_of s p) where
-    pub at_inside : q < p → Inside q ≡ reason_of s p
+    pub at_inside : q < p → Ok (Inside q) ≡ reason_of s p
     unfolding reason_of
     at_inside k = rw (lt-ltb p (length s) l, ← e, lt-ltb q p k)
-
-    -- as the code has it: the reason of `&recording[position..]`
-    pub at_first : p ≤ q → (r : Reason) → r ≡ here_of (take (length s - p) (drop p s)) → r ≡ reason_of s p
-    unfolding reason_of
-    at_first k r z = z ∙ ap here_of (take_all (length s - p) (drop p s) (omega (arith, length-drop p s))) ∙ rw (lt-ltb p (length s) l, ← e, le-ltb q p k)

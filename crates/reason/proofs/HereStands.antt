@@ -1,4 +1,5 @@
 -- The reason at the first byte says a message is given exactly where the division has one. Assumes nothing.
+use Rattle.std.specs.Prelude.{Result, Ok, Err}
 use Prim.Native.Nat.{ℕ, ◌+◌, ◌-◌, ◌≤◌}
 use mathlib.Core.Path.{◌≡◌, refl, sym, ap, ◌∙◌}
 use mathlib.Core.Bool.{Bool, true, false, cond}
@@ -19,19 +20,20 @@ use Rattle.front.specs.Look.{judged, look_by, look}
 use Rattle.front.proofs.Bounds.{ClaimFact, claim_fact}
 use Rattle.division.specs.Division.{length_of, stands}
 use Rattle.division.proofs.DivideSteps.{look_nil}
+use Rattle.refusal.specs.declared.Refusal.{Refusal}
 use Rattle.reason.specs.declared.Reason.{Reason}
-use Rattle.reason.specs.declared.Reason.TheVariants.{Refused, Inside, Given, Sync, CutUnknown, CutShort, Checksum}
+use Rattle.reason.specs.declared.Reason.TheVariants.{Inside, Given, Sync, CutUnknown, CutShort, Checksum}
 use Rattle.reason.specs.Reason.{residue_of, summed, said_by, here_of}
 
 -- how long the message is that stands there, by the reason
-abbrev pub Stands : List ℕ → Reason → Type 0
-Stands xs (Refused r) = stands xs ≡ 0
-Stands xs (Inside q) = ⊥
-Stands xs (Given n) = (stands xs ≡ n) × (15 ≤ n) × (n ≤ length xs)
-Stands xs (Sync k) = stands xs ≡ 0
-Stands xs CutUnknown = stands xs ≡ 0
-Stands xs (CutShort n) = stands xs ≡ 0
-Stands xs (Checksum residue) = stands xs ≡ 0
+abbrev pub Stands : List ℕ → Result Reason Refusal → Type 0
+Stands xs (Err r) = stands xs ≡ 0
+Stands xs (Ok (Inside q)) = ⊥
+Stands xs (Ok (Given n)) = (stands xs ≡ n) × (15 ≤ n) × (n ≤ length xs)
+Stands xs (Ok (Sync k)) = stands xs ≡ 0
+Stands xs (Ok CutUnknown) = stands xs ≡ 0
+Stands xs (Ok (CutShort n)) = stands xs ≡ 0
+Stands xs (Ok (Checksum residue)) = stands xs ≡ 0
 
 -- the residue is 0 exactly if the checksum agrees
 module _ (xs : List ℕ) (n : ℕ) (long : 15 ≤ n) (here : n ≤ length xs) where
@@ -44,7 +46,7 @@ module _ (xs : List ℕ) (n : ℕ) (long : 15 ≤ n) (here : n ≤ length xs) wh
   zero_agrees_with : residue_of n xs ≡ 0 → agrees (take n xs) ≡ true
   zero_agrees_with e = zero_agrees (take n xs) (omega (arith, length-take-le n xs here)) (residue_is ∙ e)
 
-said_stands : (xs : List ℕ) (c : Claim) → claim xs ≡ c → ClaimFact xs c → Stands xs (said_by c xs)
+said_stands : (xs : List ℕ) (c : Claim) → claim xs ≡ c → ClaimFact xs c → Stands xs (Ok (said_by c xs))
 unfolding said_by summed stands length_of look look_by judged
 said_stands xs Nothing e h = rw e
 said_stands xs (AtLeast k) e h = rw e
@@ -54,7 +56,7 @@ said_stands xs (Long n) e h = go (leb n (length xs)) refl (eqb (residue_of n xs)
     not e = let z : ◌≡◌ {A = ℕ} 0 1 = cc in omega arith
 
     go : (a : Bool) → leb n (length xs) ≡ a → (b : Bool) → eqb (residue_of n xs) 0 ≡ b → (t : Bool) → agrees (take n xs) ≡ t
-        → Stands xs (cond a (cond b (Given n) (Checksum (residue_of n xs))) (CutShort (n - length xs)))
+        → Stands xs (Ok (cond a (cond b (Given n) (Checksum (residue_of n xs))) (CutShort (n - length xs))))
     go true p true q true r = (rw (e, p, r), h.0, leb-true n (length xs) p)
     go true p true q false r = absurd (not (sym (zero_agrees_with xs n h.0 (leb-true n (length xs) p) (eqb-true (residue_of n xs) 0 q)) ∙ r))
     go true p false q true r = absurd (eqb-false (residue_of n xs) 0 q (agrees_zero xs n h.0 (leb-true n (length xs) p) r))

@@ -1,4 +1,5 @@
 -- What each step of the reason at the first byte comes to, in the definitions' words. Assumes nothing.
+use Rattle.std.specs.Prelude.{Ok, Err}
 use Prim.Native.Nat.{ℕ, suc, ◌+◌, ◌-◌, ◌≤◌, ◌<◌}
 use mathlib.Core.Path.{◌≡◌, refl, sym, ap, ap₂, ◌∙◌}
 use mathlib.Core.List.{List, [], ◌∷◌}
@@ -14,7 +15,7 @@ use Rattle.front.specs.declared.Claim.{Claim}
 use Rattle.front.specs.declared.Claim.TheVariants.{Nothing, AtLeast, Long}
 use Rattle.front.specs.Claim.{claim}
 use Rattle.front.proofs.Bounds.{ClaimFact, claim_fact}
-use Rattle.reason.specs.declared.Reason.TheVariants.{Refused, Given, Sync, CutUnknown, CutShort, Checksum}
+use Rattle.reason.specs.declared.Reason.TheVariants.{Given, Sync, CutUnknown, CutShort, Checksum}
 use Rattle.reason.specs.Reason.{wrong_at, residue_of, summed, said_by, here_of}
 
 -- a claimed message is long enough to have a checksum
@@ -42,33 +43,33 @@ unfolding summed
 sum_off n residue e = rw (ne_eqb residue 0 e)
 
 -- ---- by the claim
-pub here_none : (xs : List ℕ) → length xs ≡ 0 → Refused PastEnd ≡ here_of xs
+pub here_none : (xs : List ℕ) → length xs ≡ 0 → Err PastEnd ≡ here_of xs
 unfolding here_of
 here_none [] e = refl
 here_none (x ∷ xs) e = absurd (omega arith)
 
-pub here_some : (xs : List ℕ) → (length xs ≡ 0 → ⊥) → here_of xs ≡ said_by (claim xs) xs
+pub here_some : (xs : List ℕ) → (length xs ≡ 0 → ⊥) → here_of xs ≡ Ok (said_by (claim xs) xs)
 unfolding here_of
 here_some [] e = absurd (e refl)
 here_some (x ∷ xs) e = refl
 
 module _ (xs : List ℕ) (some : length xs ≡ 0 → ⊥) (c : Claim) (e : c ≡ claim xs) where
-  said : (d : Claim) → c ≡ d → said_by d xs ≡ here_of xs
-  said d q = ap (λ k. said_by k xs) (sym q ∙ e) ∙ sym (here_some xs some)
+  said : (d : Claim) → c ≡ d → Ok (said_by d xs) ≡ here_of xs
+  said d q = ap (λ k. Ok (said_by k xs)) (sym q ∙ e) ∙ sym (here_some xs some)
 
-  pub here_sync : c ≡ Nothing → Sync (wrong_at xs) ≡ here_of xs
+  pub here_sync : c ≡ Nothing → Ok (Sync (wrong_at xs)) ≡ here_of xs
   unfolding said_by
   here_sync q = said Nothing q
 
-  pub here_unknown : (k : ℕ) → c ≡ AtLeast k → CutUnknown ≡ here_of xs
+  pub here_unknown : (k : ℕ) → c ≡ AtLeast k → Ok CutUnknown ≡ here_of xs
   unfolding said_by
   here_unknown k q = said (AtLeast k) q
 
   module _ (n : ℕ) (q : c ≡ Long n) where
-    pub here_short : length xs < n → CutShort (n - length xs) ≡ here_of xs
+    pub here_short : length xs < n → Ok (CutShort (n - length xs)) ≡ here_of xs
     unfolding said_by
     here_short l = rw (lt-leb n (length xs) l) at (said (Long n) q)
 
-    pub here_whole : n ≤ length xs → summed n (residue_of n xs) ≡ here_of xs
+    pub here_whole : n ≤ length xs → Ok (summed n (residue_of n xs)) ≡ here_of xs
     unfolding said_by
     here_whole l = rw (le-leb n (length xs) l) at (said (Long n) q)

@@ -1,8 +1,9 @@
 -- Why a position of a recording is the first byte of a message that is given, or is not. Definitions only.
-use Rattle.std.specs.Prelude.{ℕ, suc, ◌+◌, ◌-◌, cond, List, [], ◌∷◌, length, drop, ltb, leb, eqb}
+use Rattle.std.specs.Prelude.{ℕ, suc, ◌+◌, ◌-◌, cond, List, [], ◌∷◌, length, drop, ltb, leb, eqb, Result, Ok, Err}
 use Rattle.octets.specs.Begins.{common}
 use Rattle.octets.specs.Checksum.{checksum_of}
 use Rattle.octets.specs.Parts.{part as part_of}
+use Rattle.refusal.specs.declared.Refusal.{Refusal}
 use Rattle.refusal.specs.declared.Refusal.TheVariants.{PastEnd}
 use Rattle.macm.specs.Form.{new_sync, old_sync}
 use Rattle.front.specs.declared.Claim.{Claim}
@@ -11,7 +12,7 @@ use Rattle.front.specs.Claim.{claim}
 use Rattle.division.specs.Division.{Division, last, part, divide}
 use Rattle.division.specs.Walk.{further}
 use Rattle.reason.specs.declared.Reason.{Reason}
-use Rattle.reason.specs.declared.Reason.TheVariants.{Refused, Inside, Given, Sync, CutUnknown, CutShort, Checksum}
+use Rattle.reason.specs.declared.Reason.TheVariants.{Inside, Given, Sync, CutUnknown, CutShort, Checksum}
 
 -- ---- at the first of some bytes, which no message covers
 
@@ -32,9 +33,9 @@ said_by Nothing xs = Sync (wrong_at xs)
 said_by (AtLeast k) xs = CutUnknown
 said_by (Long n) xs = let s = summed n (residue_of n xs) in cond (leb n (length xs)) s (CutShort (n - length xs))
 
-unfoldable pub here_of : List ℕ → Reason
-here_of [] = Refused PastEnd
-here_of (x ∷ xs) = said_by (claim (x ∷ xs)) (x ∷ xs)
+unfoldable pub here_of : List ℕ → Result Reason Refusal
+here_of [] = Err PastEnd
+here_of (x ∷ xs) = Ok (said_by (claim (x ∷ xs)) (x ∷ xs))
 
 -- ---- at a position of a recording
 
@@ -47,5 +48,5 @@ abbrev pub cover_of : List ℕ → ℕ → ℕ
 cover_of s p = cover_in (divide s 0) 0 p
 
 -- inside a given message comes first; 12 at or past the end
-unfoldable pub reason_of : List ℕ → ℕ → Reason
-reason_of s p = cond (ltb p (length s)) (cond (ltb (cover_of s p) p) (Inside (cover_of s p)) (here_of (drop p s))) (Refused PastEnd)
+unfoldable pub reason_of : List ℕ → ℕ → Result Reason Refusal
+reason_of s p = cond (ltb p (length s)) (cond (ltb (cover_of s p) p) (Ok (Inside (cover_of s p))) (here_of (drop p s))) (Err PastEnd)

@@ -10,9 +10,8 @@ use refusal::Refusal;
 
 // Inside the given message that begins at a position; given, with so many bytes; byte k of the sync, counted from 1, is the first that fits neither form;
 // cut short before the count byte, or by so many bytes; the checksum is off, with the residue.
-#[derive(Clone, Copy)]
+#[derive(Clone, Copy, Debug, PartialEq, Eq)]
 pub enum Reason {
-    Refused(Refusal),
     Inside(usize),
     Given(usize),
     Sync(usize),
@@ -24,12 +23,13 @@ pub enum Reason {
 // ---- at the first of some bytes, which no message covers
 
 // The first byte that fits neither sync string, where neither begins the bytes.
+#[tactic(auto, using(division::proofs::WalkSteps::furthest))]
 fn wrong_at(bytes: &[u8]) -> usize
     ensures { result ≡ wrong_at bytes.now }
 {
     let new = octets::common_to(&macm::NEW_SYNC, bytes);
     let old = octets::common_to(&macm::OLD_SYNC, bytes);
-    if new < old { old + 1 } else { new + 1 }
+    new.max(old) + 1
 }
 
 // All bytes of a claimed message are here. The last one stands apart, so that the others are summed in vectors.
@@ -48,22 +48,18 @@ fn sum(bytes: &[u8], n: usize) -> Reason
 
 // Of the first of these bytes, which no message covers (12 where there is none).
 #[tactic(auto, unfolding(crate::specs::Reason::here_of, crate::specs::Reason::said_by))]
-pub fn reason_here(bytes: &[u8]) -> Reason
+pub fn reason_here(bytes: &[u8]) -> Result<Reason, Refusal>
     ensures { result ≡ here_of bytes.now }
 {
-    if bytes.len() == 0 {
-        return Reason::Refused(Refusal::PastEnd);
+    if bytes.is_empty() {
+        return Err(Refusal::PastEnd);
     }
-    match front::claims(bytes) {
+    Ok(match front::claims(bytes) {
         Claim::Nothing => Reason::Sync(wrong_at(bytes)),
         Claim::AtLeast(_) => Reason::CutUnknown,
-        Claim::Long(n) => {
-            if bytes.len() < n {
-                return Reason::CutShort(n - bytes.len());
-            }
-            sum(bytes, n)
-        }
-    }
+        Claim::Long(n) if bytes.len() < n => Reason::CutShort(n - bytes.len()),
+        Claim::Long(n) => sum(bytes, n),
+    })
 }
 
 // ---- at a position of a recording
@@ -74,35 +70,40 @@ fn cover(recording: &[u8], position: usize) -> usize
     ensures { result ≡ cover_of recording.now position }
 {
     let mut at = 0;
+    // A message may end behind the position, or at it, so this is no `for`: the walk goes no further than it has to.
     while at < position {
-        let Next::Message {
-            position: start,
-            length,
-            gap: _,
-        } = division::next_message(recording, at)
-        else {
-            return position;
-        };
-        let end = start + length;
-        if position < end {
-            return if start < position { start } else { position };
+        match division::next_message(recording, at) {
+            Ok(
+                Next::Message {
+                    position: start,
+                    length,
+                    ..
+                },
+            ) => {
+                let end = start + length;
+                if position < end {
+                    return start.min(position);
+                }
+                at = end;
+            }
+            Ok(Next::End { .. }) => return position,
+            Err(_) => return position,
         }
-        at = end;
     }
     position
 }
 
 // The reason at a position (12).
 #[tactic(auto, unfolding(crate::specs::Reason::reason_of))]
-pub fn reason_at(recording: &[u8], position: usize) -> Reason
+pub fn reason_at(recording: &[u8], position: usize) -> Result<Reason, Refusal>
     ensures { result ≡ reason_of recording.now position }
 {
     if recording.len() <= position {
-        return Reason::Refused(Refusal::PastEnd);
+        return Err(Refusal::PastEnd);
     }
     let start = cover(recording, position);
     if start < position {
-        return Reason::Inside(start);
+        return Ok(Reason::Inside(start));
     }
     reason_here(&recording[position..])
 }

@@ -1,13 +1,12 @@
 -- The number and the length for each case of what writing answers: where it refuses, the length is zero. Definitions only.
-use Rattle.std.specs.Prelude.{ℕ}
-use Rattle.refusal.specs.declared.Written.{Written}
-use Rattle.refusal.specs.declared.Written.TheVariants.{Refused, Length}
+use Rattle.std.specs.Prelude.{ℕ, Result, Ok, Err}
 use Rattle.refusal.specs.Numbers.{number_of}
+use Rattle.refusal.specs.declared.Refusal.{Refusal}
 
-abbrev pub written_number : Written → ℕ
-written_number (Refused r) = number_of r
-written_number (Length n) = 0
+abbrev pub written_number : Result ℕ Refusal → ℕ
+written_number (Err r) = number_of r
+written_number (Ok n) = 0
 
-abbrev pub written_length : Written → ℕ
-written_length (Refused r) = 0
-written_length (Length n) = n
+abbrev pub written_length : Result ℕ Refusal → ℕ
+written_length (Err r) = 0
+written_length (Ok n) = n

@@ -5,7 +5,7 @@ ghost use Rattle.std.specs.Io.KnownBytes.{Keeps, Appends, Consumes, IsAtEnd};
 use std::io;
 use std::io::{ErrorKind, Read, Write};
 
-// A block of memory. Its length is a parameter, since counting a large one out is more than the checker can.
+// A block of memory for a text. Its length is a parameter, since counting a large one out is more than the checker can.
 #[derive(Drop)]
 pub(crate) struct Block<const N: usize> {
     bytes: [u8; N],
@@ -50,11 +50,8 @@ fn read_some<R: Read>(reader: &mut R, room: &mut [u8]) -> io::Result<usize>
     for _ in 0..u64::MAX {
         match reader.read(room) {
             Ok(count) => return Ok(count),
-            Err(error) => {
-                if error.kind() != ErrorKind::Interrupted {
-                    return Err(error);
-                }
-            }
+            Err(error) if error.kind() == ErrorKind::Interrupted => {}
+            Err(error) => return Err(error),
         }
     }
     Err(io::Error::from(ErrorKind::Interrupted))
@@ -73,11 +70,8 @@ pub(crate) fn write_out<W: Write>(writer: &mut W, text: &[u8]) -> io::Result<()>
         match writer.write(&text[put..]) {
             Ok(0) => return Err(io::Error::from(ErrorKind::WriteZero)),
             Ok(count) => put += count,
-            Err(error) => {
-                if error.kind() != ErrorKind::Interrupted {
-                    return Err(error);
-                }
-            }
+            Err(error) if error.kind() == ErrorKind::Interrupted => {}
+            Err(error) => return Err(error),
         }
     }
     Err(io::Error::from(ErrorKind::Interrupted))

@@ -1,4 +1,5 @@
 -- Why a call refuses, answers and leaves behind what it is to. Assumes nothing.
+use Rattle.std.specs.Prelude.{Result, Ok, Err}
 use Prim.Native.Nat.{ℕ, suc, ◌+◌, ◌-◌, ◌^◌, ◌≤◌, ◌<◌}
 use mathlib.Core.Path.{◌≡◌, refl, sym, ap, ◌∙◌}
 use mathlib.Core.Bool.{Bool, true, false, cond}
@@ -8,16 +9,13 @@ use native.Mathlib.Omega.{arith}
 use lib.ListN.{length, take, drop, replicate, length-append, length-drop}
 use lib.Seq.{length-take-le}
 use lib.Dec.{ltb, eqb}
-use borrow.Author.Tests.{lt-ltb, le-ltb, ltb-true, ltb-false, eq-eqb, ne_eqb}
+use borrow.Author.Tests.{le-ltb, ltb-false, eq-eqb}
 use Rattle.division.specs.Work.{tested_in}
 use Rattle.division.proofs.TestedSteps.{tested_most_in}
 use Rattle.refusal.specs.declared.Refusal.{Refusal}
 use Rattle.refusal.specs.declared.Refusal.TheVariants.{SmallBuffer, BadState, Ended, TooMuch}
 use Rattle.stream.specs.declared.State.{State}
-use Rattle.stream.specs.declared.Answer.TheVariants.{Refused}
 use Rattle.stream.specs.declared.Reply.{Reply}
-use Rattle.stream.specs.declared.Gate.{Gate}
-use Rattle.stream.specs.declared.Gate.TheVariants.{Refused as Shut, Open}
 use Rattle.stream.specs.declared.Outcome.{Outcome}
 use Rattle.stream.specs.declared.Outcome.TheVariants.{Message, Nothing}
 use Rattle.stream.specs.Scan.{scan}
@@ -27,13 +25,6 @@ use Rattle.stream.specs.Steps.{Allowed, Given, CameTo, settled_in, Tested, reply
 use Rattle.stream.proofs.WindowSteps.{laid_take}
 
 -- ---- a bad state
-pub sums_test : (held gap total : ℕ) → gap ≤ total → ltb (total - gap) held ≡ ltb total (gap + held)
-sums_test held gap total l = go (ltb (total - gap) held) refl
-  where
-    go : (b : Bool) → ltb (total - gap) held ≡ b → b ≡ ltb total (gap + held)
-    go true e = sym (lt-ltb total (gap + held) (omega (arith, ltb-true (total - gap) held e)))
-    go false e = sym (le-ltb total (gap + held) (omega (arith, ltb-false (total - gap) held e)))
-
 pub bad_false : (held gap total summed : ℕ) → bad held gap total summed ≡ false → (held ≤ room) × (total ≤ limit) × (gap + held ≤ total) × (summed ≤ most_summed)
 bad_false held gap total summed = go (ltb room held) refl (ltb limit total) refl (ltb most_summed summed) refl
   where
@@ -47,42 +38,12 @@ bad_false held gap total summed = go (ltb room held) refl (ltb limit total) refl
     go false x false y true w z = absurd (clash z)
     go false x false y false w z = (ltb-false room held x, ltb-false limit total y, ltb-false total (gap + held) z, ltb-false most_summed summed w)
 
--- ---- the checks, test by test
-module _ (s : State) (w o p : ℕ) where
-  pub small_window : w < room → Shut SmallBuffer ≡ feed_checked s w o p
-  unfolding checked feed_checked feed_checked_by
-  small_window a = rw (lt-ltb w room a)
-
-  module _ (a : room ≤ w) where
-    pub small_output : o < room → Shut SmallBuffer ≡ feed_checked s w o p
-    unfolding checked feed_checked feed_checked_by
-    small_output b = rw (le-ltb w room a, lt-ltb o room b)
-
-    module _ (b : room ≤ o) where
-      pub is_bad : bad s.held s.gap s.total s.summed ≡ true → Shut BadState ≡ feed_checked s w o p
-      unfolding checked feed_checked feed_checked_by
-      is_bad c = rw (le-ltb w room a, le-ltb o room b, c)
-
-      module _ (c : bad s.held s.gap s.total s.summed ≡ false) where
-        pub has_ended : (s.ended ≡ 0 → ⊥) → Shut Ended ≡ feed_checked s w o p
-        unfolding checked feed_checked feed_checked_by
-        has_ended n = rw (le-ltb w room a, le-ltb o room b, c, ne_eqb s.ended 0 n)
-
-        module _ (n : s.ended ≡ 0) where
-          pub too_much : limit < s.total + p → Shut TooMuch ≡ feed_checked s w o p
-          unfolding checked feed_checked feed_checked_by
-          too_much l = rw (le-ltb w room a, le-ltb o room b, c, eq-eqb s.ended 0 n, lt-ltb limit (s.total + p) l)
-
-          pub goes_on : s.total + p ≤ limit → Open ≡ feed_checked s w o p
-          unfolding checked feed_checked feed_checked_by
-          goes_on l = rw (le-ltb w room a, le-ltb o room b, c, eq-eqb s.ended 0 n, le-ltb limit (s.total + p) l)
-
--- ---- and back: what an open gate has
-opens : (t : Bool) (r : Refusal) (k : Gate) → cond t (Shut r) k ≡ Open → (t ≡ false) × (k ≡ Open)
+-- ---- what an open gate has
+opens : (t : Bool) (r : Refusal) (k : Result Unit Refusal) → cond t (Err r) k ≡ Ok tt → (t ≡ false) × (k ≡ Ok tt)
 opens true r k e = absurd (let z : ◌≡◌ {A = ℕ} 0 1 = cc in omega arith)
 opens false r k e = (refl, e)
 
-checked_open : (s : State) (w o : ℕ) → checked s w o ≡ Open → Allowed s w o 0
+pub checked_open : (s : State) (w o : ℕ) → checked s w o ≡ Ok tt → Allowed s w o 0
 unfolding checked
 checked_open s w o e =
     let a = opens (ltb w room) SmallBuffer _ e in
@@ -91,18 +52,22 @@ checked_open s w o e =
     record { window = ltb-false _ _ a.0; output = ltb-false _ _ b.0; held = c.0; sums = c.2; fits = omega arith; counted = c.3 }
 
 module _ (s : State) (w o p : ℕ) where
-  pub feed_allowed : feed_checked s w o p ≡ Open → Allowed s w o p
+  pub goes_on : checked s w o ≡ Ok tt → s.ended ≡ 0 → s.total + p ≤ limit → Ok tt ≡ feed_checked s w o p
+  unfolding feed_checked feed_checked_by
+  goes_on a n l = rw (a, eq-eqb s.ended 0 n, le-ltb limit (s.total + p) l)
+
+  pub feed_allowed : feed_checked s w o p ≡ Ok tt → Allowed s w o p
   unfolding feed_checked feed_checked_by
   feed_allowed e = go (checked s w o) refl e
     where
-      go : (g : Gate) → checked s w o ≡ g → feed_checked_by g s p ≡ Open → Allowed s w o p
-      go (Shut r) x e = absurd (let z : ◌≡◌ {A = ℕ} 0 1 = cc in omega arith)
-      go Open x e = test (eqb s.ended 0) e
+      go : (g : Result Unit Refusal) → checked s w o ≡ g → feed_checked_by g s p ≡ Ok tt → Allowed s w o p
+      go (Err r) x e = absurd (let z : ◌≡◌ {A = ℕ} 0 1 = cc in omega arith)
+      go (Ok done) x e = test (eqb s.ended 0) e
         where
           a : Allowed s w o 0
           a = checked_open s w o x
 
-          test : (t : Bool) → cond t (cond (ltb limit (s.total + p)) (Shut TooMuch) Open) (Shut Ended) ≡ Open → Allowed s w o p
+          test : (t : Bool) → cond {A = Result Unit Refusal} t (cond (ltb limit (s.total + p)) (Err TooMuch) (Ok tt)) (Err Ended) ≡ Ok tt → Allowed s w o p
           test true e =
               let b = opens (ltb limit (s.total + p)) TooMuch _ e in
               record { window = a.window; output = a.output; held = a.held; sums = a.sums; fits = ltb-false _ _ b.0; counted = a.counted }
@@ -110,18 +75,6 @@ module _ (s : State) (w o p : ℕ) where
 
 pub allowed_fits : (s : State) (w o p : ℕ) → Allowed s w o p → (s.held ≤ room) × (room ≤ w) × (room ≤ o) × (s.gap + s.held + p ≤ limit)
 allowed_fits s w o p a = (a.held, a.window, a.output, omega (arith, a.sums, a.fits))
-
--- a finish is checked as a feed of nothing before the end
-abbrev pub unended : State → State
-unended s = record { held = s.held; gap = s.gap; total = s.total; ended = 0; summed = s.summed }
-
-finish_checked : (s : State) (w o : ℕ) → feed_checked (unended s) w o 0 ≡ checked s w o
-unfolding feed_checked feed_checked_by checked
-finish_checked s w o = go (checked s w o) refl
-  where
-    go : (g : Gate) → checked s w o ≡ g → feed_checked_by g (unended s) 0 ≡ g
-    go (Shut r) e = refl
-    go Open e = rw (le-ltb limit (s.total + 0) (checked_open s w o e).fits)
 
 -- ---- what a call leaves
 -- the reply fits, and so do the bytes held and the bytes summed
@@ -175,23 +128,23 @@ module _ (s : State) (p w o : List ℕ) (d : Fed) (w₁ w₂ o₁ : List ℕ) (r
 
 -- ---- the calls
 module _ (s : State) (p w o : List ℕ) where
-  pub feed_refused : (r : Refusal) (a : Reply) → feed_checked s (length w) (length o) (length p) ≡ Shut r → a ≡ record { answer = Refused r; state = s } → Leaves (feed_call s p w o) a w o
+  pub feed_refused : (r : Refusal) (a : Reply) → feed_checked s (length w) (length o) (length p) ≡ Err r → a ≡ record { answer = Err r; state = s } → Leaves (feed_call s p w o) a w o
   unfolding feed_call
   feed_refused r a z q = rw z (record { reply = q; window = refl; output = refl })
 
-  pub feed_goes : (x : Outcome) (u : ℕ) (w₁ o₁ w₂ : List ℕ) (r : Reply) → feed_checked s (length w) (length o) (length p) ≡ Open → CameTo (fed p (scan false (take s.held w) s.gap)) p w o x w₁ o₁
+  pub feed_goes : (x : Outcome) (u : ℕ) (w₁ o₁ w₂ : List ℕ) (r : Reply) → feed_checked s (length w) (length o) (length p) ≡ Ok tt → CameTo (fed p (scan false (take s.held w) s.gap)) p w o x w₁ o₁
       → Tested s.gap (take s.held w ++ p) x u → r ≡ reply_to s.total false x (s.summed + u) → w₂ ≡ take r.state.held w₁ ++ replicate (length w₁ - r.state.held) 0 → Leaves (feed_call s p w o) r w₂ o₁
   unfolding feed_call feed
   feed_goes (Message n g t h) u w₁ o₁ w₂ r z c k q v = rw z (fed_message s p w o _ w₁ w₂ o₁ r v n g t h u c k.sum q)
   feed_goes (Nothing g t h) u w₁ o₁ w₂ r z c k q v = rw z (fed_nothing s p w o _ w₁ w₂ o₁ r v g t h u c k.sum q)
 
 module _ (s : State) (w o : List ℕ) where
-  pub finish_refused : (r : Refusal) (a : Reply) → feed_checked (unended s) (length w) (length o) 0 ≡ Shut r → a ≡ record { answer = Refused r; state = s } → Leaves (finish_call s w o) a w o
+  pub finish_refused : (r : Refusal) (a : Reply) → checked s (length w) (length o) ≡ Err r → a ≡ record { answer = Err r; state = s } → Leaves (finish_call s w o) a w o
   unfolding finish_call
-  finish_refused r a z q = rw (sym (finish_checked s (length w) (length o)) ∙ z) (record { reply = q; window = refl; output = refl })
+  finish_refused r a z q = rw z (record { reply = q; window = refl; output = refl })
 
-  pub finish_goes : (x : Outcome) (u : ℕ) (w₁ o₁ w₂ : List ℕ) (r : Reply) → feed_checked (unended s) (length w) (length o) 0 ≡ Open → CameTo (fed [] (scan true (take s.held w) s.gap)) [] w o x w₁ o₁
+  pub finish_goes : (x : Outcome) (u : ℕ) (w₁ o₁ w₂ : List ℕ) (r : Reply) → checked s (length w) (length o) ≡ Ok tt → CameTo (fed [] (scan true (take s.held w) s.gap)) [] w o x w₁ o₁
       → Tested s.gap (take s.held w ++ []) x u → r ≡ reply_to s.total true x (s.summed + u) → w₂ ≡ take r.state.held w₁ ++ replicate (length w₁ - r.state.held) 0 → Leaves (finish_call s w o) r w₂ o₁
   unfolding finish_call finish
-  finish_goes (Message n g t h) u w₁ o₁ w₂ r z c k q v = rw (sym (finish_checked s (length w) (length o)) ∙ z) (finished_message s [] w o _ w₁ w₂ o₁ r v n g t h u c refl (rw (append-nil (take s.held w)) at k.sum) q)
-  finish_goes (Nothing g t h) u w₁ o₁ w₂ r z c k q v = rw (sym (finish_checked s (length w) (length o)) ∙ z) (finished_nothing s [] w o _ w₁ w₂ o₁ r v g t h u c refl (rw (append-nil (take s.held w)) at k.sum) q)
+  finish_goes (Message n g t h) u w₁ o₁ w₂ r z c k q v = rw z (finished_message s [] w o _ w₁ w₂ o₁ r v n g t h u c refl (rw (append-nil (take s.held w)) at k.sum) q)
+  finish_goes (Nothing g t h) u w₁ o₁ w₂ r z c k q v = rw z (finished_nothing s [] w o _ w₁ w₂ o₁ r v g t h u c refl (rw (append-nil (take s.held w)) at k.sum) q)

@@ -1,4 +1,5 @@
 -- A call by cases: each refusal under document 01's condition for it and no earlier one, or what the call goes on to. Assumes nothing.
+use Rattle.std.specs.Prelude.{Result, Ok, Err}
 use Prim.Native.Nat.{ℕ, ◌+◌, ◌≤◌, ◌<◌}
 use mathlib.Core.Path.{◌≡◌, refl}
 use mathlib.Core.Bool.{Bool, true, false, cond}
@@ -10,12 +11,11 @@ use lib.Dec.{ltb, eqb}
 use borrow.Author.Tests.{ltb-true, ltb-false, eqb-true, eqb-false}
 use Rattle.refusal.specs.declared.Refusal.TheVariants.{SmallBuffer, BadState, Ended, TooMuch}
 use Rattle.stream.specs.declared.State.{State}
-use Rattle.stream.specs.declared.Gate.{Gate}
-use Rattle.stream.specs.declared.Gate.TheVariants.{Refused as Shut, Open}
 use Rattle.stream.specs.Feed.{feed, finish}
 use Rattle.stream.specs.Reader.{room, limit, most_summed, bad, checked, feed_checked_by, feed_checked, Call, refusal, fed_call, feed_by, feed_call, finished_call, finish_by, finish_call}
 use Rattle.stream.specs.Steps.{Allowed}
 use Rattle.stream.proofs.CallSteps.{bad_false}
+use Rattle.refusal.specs.declared.Refusal.{Refusal}
 
 -- a window or an output that is too small; a state that no run leaves
 abbrev pub Small : ℕ → ℕ → Type 0
@@ -34,13 +34,13 @@ bad_true s = go (ltb room s.held) refl (ltb limit s.total) refl (ltb most_summed
     go false x false y true w z = inr (inr (inl (ltb-true most_summed s.summed w)))
     go false x false y false w z = inr (inr (inr (ltb-true s.total (s.gap + s.held) z)))
 
-module _ (s : State) (w o : ℕ) (P : Gate → Type 0) (small : Small w o → P (Shut SmallBuffer)) (wrong : room ≤ w → room ≤ o → Bad s → P (Shut BadState)) (opens : Allowed s w o 0 → P Open) where
+module _ (s : State) (w o : ℕ) (P : Result Unit Refusal → Type 0) (small : Small w o → P (Err SmallBuffer)) (wrong : room ≤ w → room ≤ o → Bad s → P (Err BadState)) (opens : Allowed s w o 0 → P (Ok tt)) where
   checked_cases : P (checked s w o)
   unfolding checked
   checked_cases = go (ltb w room) refl (ltb o room) refl (bad s.held s.gap s.total s.summed) refl
     where
       go : (a : Bool) → ltb w room ≡ a → (b : Bool) → ltb o room ≡ b → (c : Bool) → bad s.held s.gap s.total s.summed ≡ c
-          → P (cond a (Shut SmallBuffer) (cond b (Shut SmallBuffer) (cond c (Shut BadState) Open)))
+          → P (cond a (Err SmallBuffer) (cond b (Err SmallBuffer) (cond c (Err BadState) (Ok tt))))
       go true h b i c j = small (inl (ltb-true w room h))
       go false h true i c j = small (inr (ltb-true o room i))
       go false h false i true j = wrong (ltb-false w room h) (ltb-false o room i) (bad_true s j)
@@ -58,10 +58,10 @@ module _ (s : State) (w o : List ℕ) (P : Call → Type 0) (small : Small (leng
   unfolding feed_call feed_checked feed_checked_by
   feed_cases p ended much goes = checked_cases s (length w) (length o) (λ g. P (feed_by (feed_checked_by g s (length p)) s p w o)) small wrong on
     where
-      on : Allowed s (length w) (length o) 0 → P (feed_by (feed_checked_by Open s (length p)) s p w o)
+      on : Allowed s (length w) (length o) 0 → P (feed_by (feed_checked_by (Ok tt) s (length p)) s p w o)
       on a = test (eqb s.ended 0) refl (ltb limit (s.total + length p)) refl
         where
-          test : (b : Bool) → eqb s.ended 0 ≡ b → (c : Bool) → ltb limit (s.total + length p) ≡ c → P (feed_by (cond b (cond c (Shut TooMuch) Open) (Shut Ended)) s p w o)
+          test : (b : Bool) → eqb s.ended 0 ≡ b → (c : Bool) → ltb limit (s.total + length p) ≡ c → P (feed_by (cond b (cond c (Err TooMuch) (Ok tt)) (Err Ended)) s p w o)
           test false h c i = ended a (eqb-false s.ended 0 h)
           test true h true i = much a (eqb-true s.ended 0 h) (ltb-true limit (s.total + length p) i)
           test true h false i =

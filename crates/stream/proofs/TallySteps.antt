@@ -3,11 +3,13 @@ use Prim.Native.Nat.{ℕ, suc, ◌+◌, ◌-◌, ◌*◌, ◌%◌, ◌^◌, ◌�
 use mathlib.Core.Path.{◌≡◌, refl, sym, ap, ◌∙◌}
 use mathlib.Core.Bool.{Bool, true, false}
 use mathlib.Core.List.{List, [], ◌++◌, append_assoc}
+use native.Mathlib.Nat.{zero-add}
 use native.Mathlib.Omega.{arith}
 use lib.ListN.{length, take, drop, length-append, length-drop, take-append-drop}
-use lib.Seq.{drop-drop, drop-append-le, length-take-le}
+use lib.Seq.{paste, drop-drop, drop-append-le, length-take-le}
 use mir.Syntax.{w64}
 use mir.Val.{Fits}
+use Rattle.octets.specs.Parts.{over}
 use Rattle.division.specs.declared.Passage.{Passage}
 use Rattle.division.specs.declared.Walked.{Walked}
 use Rattle.division.specs.declared.Walked.TheVariants.{Message as AtMessage, Unsettled}
@@ -16,11 +18,12 @@ use Rattle.division.specs.Work.{tested_in}
 use Rattle.division.proofs.TestedSteps.{tested_split, tested_most_in}
 use Rattle.stream.specs.declared.Outcome.{Outcome}
 use Rattle.stream.specs.declared.Outcome.TheVariants.{Message, Nothing}
-use Rattle.stream.specs.Scan.{got, stop}
-use Rattle.stream.specs.Steps.{Pulled, settled_in, Tested}
+use Rattle.stream.specs.Scan.{got, stop, scan}
+use Rattle.stream.specs.Feed.{fed}
+use Rattle.stream.specs.Steps.{Pulled, CameTo, settled_in, Tested}
 use Rattle.stream.proofs.ScanLaws.{TestedStays, tested_stays}
 use Rattle.stream.proofs.WindowSteps.{tail}
-use Rattle.stream.proofs.TurnSteps.{Filling, filling_held, gives, stops, turn_within, length_left, on, none}
+use Rattle.stream.proofs.TurnSteps.{Filling, filling_begins, filling_held, turn_hands, turn_message_gap, turn_given, gives, stops, turn_within, turn_gap, length_left, on, none}
 
 -- ---- what a walk has run through the checksum, where 64 bits hold its number
 module _ (e : Bool) (xs : List ℕ) (r : Passage) (z : r ≡ whole_walk e xs) (fits : 6131 * length xs < 2 ^ 64) where
@@ -76,6 +79,9 @@ module _ (g t : ℕ) (p : List ℕ) (fits : (t ≤ length p) × (g + length p �
   place_passed k q t' h = let y : g + k - g ≡ k = omega arith in record { from_on = omega arith; sum = rw y (place (Unsettled k) q) }
 
 -- ---- a turn
+pub never : (p : List ℕ) → false ≡ true → length p ≡ 0
+never p z = absurd (let y : ◌≡◌ {A = ℕ} 0 1 = cc in omega arith)
+
 module _ (e : Bool) (h₀ g₀ : ℕ) (w₀ o₀ p : List ℕ) (h g t : ℕ) (w o : List ℕ) (f : Filling e h₀ g₀ w₀ o₀ p h g t w o) (fits : (h₀ ≤ 6136) × (6136 ≤ length w₀) × (6136 ≤ length o₀) × (g₀ + h₀ + length p ≤ 2 ^ 48))
     (ends : e ≡ true → length p ≡ 0) (n : ℕ) (c : Tallied g₀ (take h₀ w₀ ++ p) g n (take h w ++ drop t p)) (r : Passage) (z : r ≡ whole_walk e (take h w)) where
   at : r.walked ≡ walk_of e (take h w) 0 0
@@ -134,3 +140,31 @@ module _ (e : Bool) (h₀ g₀ : ℕ) (w₀ o₀ p : List ℕ) (h g t : ℕ) (w 
         let b : take (h - k + d) w' ++ drop (t + d) p ≡ drop k (take h w) ++ drop t p =
         ap (λ i. i ++ drop (t + d) p) a.bytes ∙ ap (λ i. drop k (take h w) ++ take d (drop t p) ++ i) (sym (drop-drop d t p)) ∙ append_assoc (drop k (take h w)) (take d (drop t p)) (drop d (drop t p)) ∙ ap (λ i. drop k (take h w) ++ i) (take-append-drop d (drop t p)) in
         record { from_on = tallied.from_on; left = b ∙ tallied.left; sum = tallied.sum }
+
+-- ---- the bytes held alone, with none to come
+module _ (held gap : ℕ) (w o : List ℕ) (fits : (held ≤ 6136) × (6136 ≤ length w) × (6136 ≤ length o) × (gap + held + 0 ≤ 2 ^ 48)) (r : Passage) (z : r ≡ whole_walk true (take held w)) where
+  begins : Filling true held gap w o [] held gap 0 w o
+  begins = filling_begins true held gap w o [] fits.0
+
+  at_end : r.walked ≡ walk_of true (take held w) 0 0
+  at_end = ap (λ i. i.walked) z
+
+  module _ (k n u : ℕ) (q : r.walked ≡ AtMessage k n u) where
+    pub end_hands : (k + n ≤ held) × (held ≤ length w) × (held < 2 ^ 64) × (n ≤ length o)
+    end_hands = turn_hands true held gap w o [] held gap 0 w o begins fits r.walked at_end k n u q
+
+    pub end_message_gap : Fits w64 (gap + k)
+    end_message_gap = turn_message_gap true held gap w o [] held gap 0 w o begins fits r.walked at_end k n u q
+
+    pub end_given : (l : ℕ) (w' o' : List ℕ) → (l ≡ held - (k + n)) × (o' ≡ over (take n (drop k w)) o) × (w' ≡ paste w 0 (drop (k + n) w) (held - (k + n)))
+        → CameTo (fed [] (scan true (take held w) gap)) [] w o (Message n (gap + k) 0 l) w' o'
+    end_given l w' o' a = turn_given true held gap w o [] held gap 0 w o begins fits r.walked at_end k n u q l w' o' a
+
+  pub end_gap : (k : ℕ) → r.walked ≡ Unsettled k → Fits w64 (gap + k)
+  end_gap k q = turn_gap true held gap w o [] held gap 0 w o begins fits r.walked at_end k q
+
+  pub end_tested : (k m u : ℕ) → r.walked ≡ AtMessage k m u → (h' : ℕ) → Tested gap (take held w ++ []) (Message m (gap + k) 0 h') r.summed
+  end_tested k m u q h' = rw zero-add at (turn_tested true held gap w o [] held gap 0 w o begins fits (λ x. refl) 0 (tallied_begins gap (take held w ++ [])) r z k m u q h')
+
+  pub end_passed : (k : ℕ) → r.walked ≡ Unsettled k → (h' : ℕ) → Tested gap (take held w ++ []) (Nothing (gap + k) 0 h') r.summed
+  end_passed k q h' = rw zero-add at (turn_more_tested true held gap w o [] held gap 0 w o begins fits (λ x. refl) 0 (tallied_begins gap (take held w ++ [])) r z k q 0 h')

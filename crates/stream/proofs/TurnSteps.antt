@@ -1,5 +1,5 @@
 -- Why a turn over the held bytes is right, and all the turns of a call. Assumes nothing.
-use Prim.Native.Nat.{ℕ, ◌+◌, ◌-◌, ◌^◌, ◌≤◌, ◌<◌}
+use Prim.Native.Nat.{ℕ, min, ◌+◌, ◌-◌, ◌^◌, ◌≤◌, ◌<◌}
 use mathlib.Core.Path.{◌≡◌, refl, sym, ap, ◌∙◌}
 use mathlib.Core.Bool.{Bool, true, false}
 use mathlib.Core.List.{List, [], ◌∷◌, ◌++◌, append-nil}
@@ -28,7 +28,7 @@ use Rattle.stream.proofs.ScanLaws.{scan_open_at, scan_empty_at}
 use Rattle.stream.proofs.FeedLaws.{fed_bulk}
 use Rattle.stream.proofs.WalkScan.{found_message, found_none}
 use Rattle.stream.proofs.Reach.{FedMessage, fed_message, FedMore, fed_more}
-use Rattle.stream.proofs.WindowSteps.{tail, copied_front, copied_same, middle, Gave, gave_held, gave_piece}
+use Rattle.stream.proofs.WindowSteps.{tail, part_long, copied_front, copied_same, middle, Gave, gave_held, gave_piece}
 
 -- ---- what the first position needs
 pub need_is : (s : List ℕ) (c : Claim) (n : ℕ) → claim s ≡ c → n ≡ need_by c → n ≡ need s
@@ -47,11 +47,8 @@ pub need_long : (k : ℕ) → k ≡ need_by (Long k)
 unfolding need_by
 need_long k = refl
 
-pub wanted_right : (s : List ℕ) (n piece r : ℕ) → n ≡ need s → length s < need s → (piece ≡ 0 → ⊥) → (r ≤ n - length s) × (r ≤ piece) × (0 < n - length s → 0 < piece → 0 < r)
-    → (length s + r ≤ need s) × (r ≤ piece) × (r ≡ 0 → piece ≡ 0)
-wanted_right s n piece r e l z h =
-    let k : 0 < r = h.2 (omega arith) (omega (arith, z)) in
-    (omega arith, h.1, λ y. absurd (omega arith))
+pub wanted_right : (s : List ℕ) (n piece r : ℕ) → n ≡ need s → length s < need s → r ≡ min piece (n - length s) → (length s + r ≤ need s) × (r ≤ piece) × (r ≡ 0 → piece ≡ 0)
+wanted_right s n piece r e l h = (omega arith, omega arith, λ y. omega arith)
 
 -- ---- a message, however it was found and handed over
 pub came_given : (d : Fed) (p w₀ w o : List ℕ) (k n g t : ℕ) (xs : List ℕ) (l : ℕ) (w' o' : List ℕ) → d ≡ given g (take n (drop k xs)) (drop n (drop k xs)) (drop t p)
@@ -79,11 +76,17 @@ module _ (g t : ℕ) (p w o : List ℕ) (fits : (t ≤ length p) × (6136 ≤ le
     pub place_end : k + n ≤ e
     place_end = found.inside
 
-    pub place_message : (k ≤ k + n) × (k + n ≤ length (take (length p - t) (drop t p))) × (k + n - k ≤ length o)
-    place_message = (omega arith, omega (arith, found.inside, found.within), omega (arith, found.size))
+    pub place_message : k + n ≤ length (take (length p - t) (drop t p))
+    place_message = omega (arith, found.inside, found.within)
+
+    pub place_puts : length (take (k + n - k) (drop k (take (length p - t) (drop t p)))) ≤ length o
+    place_puts = omega (arith, found.size, part_long k (k + n) (take (length p - t) (drop t p)) (omega arith) place_message)
 
     pub place_rest : (k + n ≤ e) × (e ≤ length (take (length p - t) (drop t p))) × (e - (k + n) ≤ length w)
     place_rest = (found.inside, found.within, omega (arith, found.held))
+
+    pub place_keeps : length (take (e - (k + n)) (drop (k + n) (take (length p - t) (drop t p)))) ≤ length w
+    place_keeps = omega (arith, place_rest.2, part_long (k + n) e (take (length p - t) (drop t p)) place_rest.0 place_rest.1)
 
     reaches : t + e ≤ length p
     reaches = omega (arith, found.within, rest_long)
@@ -110,6 +113,9 @@ module _ (g t : ℕ) (p w o : List ℕ) (fits : (t ≤ length p) × (6136 ≤ le
 
     pub place_open : (k ≤ length (take (length p - t) (drop t p))) × (length (take (length p - t) (drop t p)) ≤ length (take (length p - t) (drop t p))) × (length (take (length p - t) (drop t p)) - k ≤ length w)
     place_open = (open_at.within, omega arith, omega (arith, open_at.held))
+
+    pub place_holds : length (take (length (take (length p - t) (drop t p)) - k) (drop k (take (length p - t) (drop t p)))) ≤ length w
+    place_holds = omega (arith, place_open.2, part_long k (length (take (length p - t) (drop t p))) (take (length p - t) (drop t p)) place_open.0 (omega arith))
 
     pub place_gap : Fits w64 (g + k)
     place_gap = record { fits = omega (arith, open_at.within, rest_long) }
@@ -254,8 +260,17 @@ module _ (e : Bool) (h₀ g₀ : ℕ) (w₀ o₀ p : List ℕ) (h g t : ℕ) (w 
                 same_output = f.same_output;
               }
 
-          pub turn_on_fits : (c ≡ 0 → ⊥) → Fits w64 (h - k + c) × Fits w64 (t + c)
-          turn_on_fits y = let n = turn_on y in (record { fits = omega (arith, n.room) }, record { fits = omega (arith, n.within) })
+-- ---- the bytes held alone, with none to come
+module _ (held gap : ℕ) (w o : List ℕ) (r : Walked) (z : r ≡ walk_of true (take held w) 0 0) where
+  module _ (l : held ≤ length w) (k : ℕ) (q : r ≡ Unsettled k) where
+    pub end_within : k ≤ held
+    end_within = let m = found_none true (take held w) r z k q in omega (arith, m.counted, m.within, length-take-le held w l)
 
-          pub turn_less : (c ≡ 0 → ⊥) → length p - (t + c) < length p - t
-          turn_less y = let n = turn_on y in omega (arith, n.within, y)
+    pub ends_with_none : CameTo (fed [] (scan true (take held w) gap)) [] w o (Nothing (gap + k) 0 (held - k)) w o
+    ends_with_none =
+        let m = found_none true (take held w) r z k q in
+        let y : m.ahead ≡ k = omega (arith, m.counted) in
+        let s : scan true (take held w) gap ≡ stop (gap + k) (drop k (take held w)) = m.is gap ∙ rw y in
+        let n : drop k (take held w) ≡ [] = rw s at (scan_empty_at (take held w) gap) in
+        let x : held - k ≡ 0 = omega (arith, ap length n, length-drop k (take held w), length-take-le held w l) in
+        rw x (ap (fed []) (s ∙ ap (stop (gap + k)) n) ∙ fed_nil (gap + k) [], refl, omega arith, refl, refl)

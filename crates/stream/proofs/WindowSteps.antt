@@ -2,11 +2,10 @@
 use Prim.Native.Nat.{ℕ, ◌+◌, ◌-◌, ◌≤◌, ◌<◌}
 use mathlib.Core.Path.{◌≡◌, sym, ap, ◌∙◌}
 use mathlib.Core.List.{List, [], ◌++◌, append_assoc, append-nil}
-use native.Mathlib.Nat.{zero-add, le_antisymm}
-use native.Mathlib.Numerals.{add-one}
+use native.Mathlib.Nat.{zero-add}
 use native.Mathlib.Omega.{arith}
-use lib.ListN.{length, get_or, set, take, drop, replicate, length-append, length-drop, take-append-drop, drop_of_length-le}
-use lib.Seq.{paste, paste-suc, take-paste, length-paste, length_paste_head, length-take-le, take-length, take_all, take-take, take-append-le, drop-drop, get_or-append-add, get_or-drop}
+use lib.ListN.{length, take, drop, replicate, length-append, length-drop, drop_of_length-le}
+use lib.Seq.{paste, take-paste, length-paste, length-take-le, take-length, take_all, take-take, take-append-le, drop-drop}
 use Rattle.octets.specs.Parts.{over}
 use Rattle.octets.proofs.Parts.{drop_take}
 use Rattle.front.specs.Look.{need}
@@ -32,26 +31,7 @@ cleared b w from l e =
     let z : w ≡ replicate (length b - from) 0 = e ∙ ap (λ r. replicate (length r) 0) (tail b from) ∙ ap (λ n. replicate n 0) (length-drop from b) in
     ap (λ r. take from b ++ (w ++ r)) (nothing_behind b from) ∙ ap (λ r. take from b ++ r) (append-nil w ∙ z)
 
--- ---- a shift reads each byte before it is written over
-shift_read : (d : List ℕ) (from i : ℕ) → from + i < length d → get_or (paste d 0 (drop from d) i) (from + i) 0 ≡ get_or (drop from d) i 0
-shift_read d from i l =
-    let h : length (take 0 d ++ take i (drop from d)) ≡ i = length_paste_head d 0 (drop from d) i (omega arith) (omega (arith, length-drop from d)) ∙ zero-add i in
-    let e : from + i ≡ length (take 0 d ++ take i (drop from d)) + from = omega arith in
-    let z : 0 + i + from ≡ from + i = omega arith in
-    rw e (get_or-append-add (take 0 d ++ take i (drop from d)) (drop (0 + i) d) from 0 ∙ get_or-drop (0 + i) d from 0 ∙ rw (z, get_or-drop))
-
-pub shift_turn : (w₀ w : List ℕ) (from n i : ℕ) → from + n ≤ length w₀ → i < n → w ≡ paste w₀ 0 (drop from w₀) i → set w i (get_or w (from + i) 0) ≡ paste w₀ 0 (drop from w₀) (i + 1)
-shift_turn w₀ w from n i r l e =
-    rw (e, shift_read w₀ from i (omega arith), add-one)
-    (ap (λ j. set (paste w₀ 0 (drop from w₀) i) j (get_or (drop from w₀) i 0)) (sym (zero-add i))
-    ∙ paste-suc w₀ 0 (drop from w₀) i 0 (omega arith) (omega (arith, length-drop from w₀)))
-
-pub shift_end : (w₀ w : List ℕ) (from n i : ℕ) → i ≤ n → n ≤ i → w ≡ paste w₀ 0 (drop from w₀) i → w ≡ paste w₀ 0 (drop from w₀) n
-shift_end w₀ w from n i a b e = e ∙ ap (paste w₀ 0 (drop from w₀)) (le_antisymm a b)
-
-pub shift_none : (w : List ℕ) (from n : ℕ) → from ≡ 0 → w ≡ paste w 0 (drop from w) n
-shift_none w from n z = rw (z, zero-add n) (sym (take-append-drop n w))
-
+-- ---- bytes shifted to the front
 module _ (from n : ℕ) (w w₁ : List ℕ) (fits : from + n ≤ length w) (e : w₁ ≡ paste w 0 (drop from w) n) where
   pub shift_front : take n w₁ ≡ take n (drop from w)
   shift_front = ap (take n) e ∙ ap (λ i. take i (paste w 0 (drop from w) n)) (sym (zero-add n)) ∙ take-paste w 0 (drop from w) n (omega arith) (omega (arith, length-drop from w))
@@ -65,12 +45,8 @@ unfolding laid
 laid_take h w w₁ w₂ l e v = v ∙ rw (length-take-le h w₁ l, e)
 
 -- ---- bytes copied over the front of a buffer
-part_long : (from to : ℕ) (bytes : List ℕ) → from ≤ to → to ≤ length bytes → length (take (to - from) (drop from bytes)) ≡ to - from
+pub part_long : (from to : ℕ) (bytes : List ℕ) → from ≤ to → to ≤ length bytes → length (take (to - from) (drop from bytes)) ≡ to - from
 part_long from to bytes a b = length-take-le (to - from) (drop from bytes) (omega (arith, length-drop from bytes))
-
-pub copied : (from to : ℕ) (bytes t t' : List ℕ) → (from ≤ to) × (to ≤ length bytes) × (to - from ≤ length t) → t' ≡ over (take (length t) (take (to - from) (drop from bytes))) t → t' ≡ over (take (to - from) (drop from bytes)) t
-copied from to bytes t t' fits e =
-    e ∙ ap (λ r. over r t) (take_all (length t) (take (to - from) (drop from bytes)) (omega (arith, part_long from to bytes fits.0 fits.1)))
 
 module _ (from to : ℕ) (bytes t t' : List ℕ) (fits : (from ≤ to) × (to ≤ length bytes) × (to - from ≤ length t)) (e : t' ≡ over (take (to - from) (drop from bytes)) t) where
   pub copied_front : take (to - from) t' ≡ take (to - from) (drop from bytes)
@@ -144,8 +120,8 @@ module _ (from n t : ℕ) (w p w₁ : List ℕ) (fits : (from + n ≤ length w) 
     room : n + c ≤ length w₁
     room = omega (arith, few, need_most (take n (drop from w)), shift_same from n w w₁ fits.0 e)
 
-    pub pull_part : (t ≤ t + c) × (t + c ≤ length p) × (t + c - t ≤ length (take (length w₁ - n) (drop n w₁)))
-    pull_part = (omega arith, omega (arith, h.1), rw (tail w₁ n) (omega (arith, room, length-drop n w₁)))
+    pub pull_part : length (take (t + c - t) (drop t p)) ≤ length (take (length w₁ - n) (drop n w₁))
+    pull_part = omega (arith, part_long t (t + c) p (omega arith) (omega (arith, h.1)), room, ap length (tail w₁ n), length-drop n w₁)
 
     pub pulled : (w₂ : List ℕ) → w₂ ≡ over (take (t + c - t) (drop t p)) (take (length w₁ - n) (drop n w₁)) → Pulled n (take n (drop from w)) w (drop t p) c (take n w₁ ++ (w₂ ++ drop (length w₁ - n) (drop n w₁)))
     pulled w₂ f =

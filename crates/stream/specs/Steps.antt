@@ -1,5 +1,5 @@
 -- What the private steps of the reader say of each other: no public contract cites these. Definitions only.
-use Rattle.std.specs.Prelude.{ℕ, suc, ◌+◌, ◌-◌, ◌≤◌, ◌≡◌, Bool, true, cond, List, ◌++◌, length, take, drop}
+use Rattle.std.specs.Prelude.{ℕ, suc, ◌+◌, ◌-◌, ◌≤◌, ◌≡◌, Bool, cond, List, ◌++◌, length, take, drop, Ok}
 use mir.Val.{bool_byte}
 use Rattle.octets.specs.Parts.{over}
 use Rattle.front.specs.Look.{need}
@@ -59,9 +59,9 @@ pub record Tested (g₀ : ℕ) (xs : List ℕ) (x : Outcome) (summed : ℕ) : Ty
   pub from_on : g₀ ≤ gap_in x
   pub sum : summed ≡ tested_in (settled_in g₀ x) xs
 
--- ---- a call that was let through, from the bytes held on; at the end of the stream there is no piece
-abbrev pub Begun : Bool → ℕ → ℕ → List ℕ → List ℕ → List ℕ → Type 0
-Begun ended held gap p w o = ((held ≤ room) × (room ≤ length w) × (room ≤ length o) × (gap + held + length p ≤ limit)) × (ended ≡ true → length p ≡ 0)
+-- ---- a call that was let through, from the bytes held on
+abbrev pub Begun : ℕ → ℕ → List ℕ → List ℕ → List ℕ → Type 0
+Begun held gap p w o = (held ≤ room) × (room ≤ length w) × (room ≤ length o) × (gap + held + length p ≤ limit)
 
 -- what it comes to, and the bytes that it has run through the checksum
 abbrev pub Divided : Bool → ℕ → ℕ → List ℕ → List ℕ → List ℕ → Counted → List ℕ → List ℕ → Type 0
@@ -74,9 +74,9 @@ no_message ended g = cond ended (End g) NeedsMore
 
 abbrev pub reply_to : ℕ → Bool → Outcome → ℕ → Reply
 reply_to total ended (Message n g t h) summed =
-    record { answer = Answered n g t; state = record { held = h; gap = 0; total = total + t; ended = bool_byte ended; summed = summed } }
+    record { answer = Ok (Answered n g t); state = record { held = h; gap = 0; total = total + t; ended = bool_byte ended; summed = summed } }
 reply_to total ended (Nothing g t h) summed =
-    record { answer = no_message ended g; state = record { held = h; gap = g; total = total + t; ended = bool_byte ended; summed = summed } }
+    record { answer = Ok (no_message ended g); state = record { held = h; gap = g; total = total + t; ended = bool_byte ended; summed = summed } }
 
 -- with what the call summed added to the state's count
 abbrev pub reply_after : State → Bool → Counted → Reply

@@ -2,14 +2,13 @@
 // the bytes that a cut left over, and the output are lent.
 #![tactic(auto)]
 
-ghost use Rattle.std.specs.Prelude.{◌≡◌, [], ◌++◌, ◌+◌, ◌-◌, ◌^◌, ◌<◌, ◌≤◌, length, take, drop, replicate};
+ghost use Rattle.std.specs.Prelude.{◌≡◌, true, false, [], ◌++◌, ◌+◌, ◌-◌, ◌^◌, ◌<◌, ◌≤◌, length, take, drop, replicate};
 ghost use Rattle.std.proofs.Math.Seq.{paste};
-ghost use mir.Val.{bool_byte};
 ghost use Rattle.octets.specs.Parts.{over};
 ghost use Rattle.front.specs.Look.{need};
 ghost use Rattle.stream.specs.Feed.{feed};
-ghost use Rattle.stream.specs.Reader.{fresh_state, bad, feed_checked, feed_call, finish_call, Leaves};
-ghost use Rattle.stream.specs.Steps.{Pulled, CameTo, Tested, Begun, Divided, no_message, reply_to, reply_after};
+ghost use Rattle.stream.specs.Reader.{fresh_state, bad, checked, feed_checked, feed_call, finish_call, Leaves};
+ghost use Rattle.stream.specs.Steps.{Pulled, CameTo, Tested, Begun, Divided, reply_after};
 
 use division::Walked;
 use front::Claim;
@@ -18,7 +17,7 @@ use refusal::Refusal;
 // The bytes held in the window, the gap bytes before them, all bytes taken, whether the end was announced (0, or anything else), and all bytes
 // run through the checksum.
 #[repr(C)]
-#[derive(Clone, Copy)]
+#[derive(Clone, Copy, Debug, PartialEq, Eq)]
 pub struct State {
     pub held: u64,
     pub gap: u64,
@@ -27,35 +26,35 @@ pub struct State {
     pub summed: u64,
 }
 
-// A refusal; all of the piece is taken and more is needed; a message with its length, the gap before it and the bytes taken;
-// the end with its gap.
-#[derive(Clone, Copy)]
+// All of the piece is taken and more is needed; a message with its length, the gap before it and the bytes taken; the end with its gap.
+#[derive(Clone, Copy, Debug, PartialEq, Eq)]
 pub enum Answer {
-    Refused(Refusal),
     NeedsMore,
     Message { length: u64, gap: u64, taken: u64 },
     End { gap: u64 },
 }
 
-#[derive(Clone, Copy)]
+#[derive(Clone, Copy, Debug, PartialEq, Eq)]
 pub struct Reply {
-    pub answer: Answer,
+    pub answer: Result<Answer, Refusal>,
     pub state: State,
-}
-
-// Whether a call goes on.
-#[derive(Clone, Copy)]
-enum Gate {
-    Refused(Refusal),
-    Open,
 }
 
 // What a call comes to: a message with its length, or none; then the gap bytes, the bytes of the piece taken, and the bytes held at the front of
 // the window after it.
 #[derive(Clone, Copy)]
 enum Outcome {
-    Message(usize, usize, usize, usize),
-    Nothing(usize, usize, usize),
+    Message {
+        length: usize,
+        gap: usize,
+        taken: usize,
+        held: usize,
+    },
+    Nothing {
+        gap: usize,
+        taken: usize,
+        held: usize,
+    },
 }
 
 // With the bytes that the call ran through the checksum.
@@ -67,80 +66,68 @@ struct Counted {
 
 // ---- what is refused
 
-// A state that no call leaves, or whose count of bytes summed is past its limit.
-fn bad_state(held: u64, gap: u64, total: u64, summed: u64) -> bool
-    ensures { result ≡ bad held gap total summed }
-{
-    if 6136 < held {
-        return true;
+impl State {
+    // A state that no call leaves, or whose count of bytes summed is past its limit.
+    fn is_bad(self) -> bool
+        ensures { result ≡ bad self.held self.gap self.total self.summed }
+    {
+        if 6136 < self.held || 281474976710656 < self.total || 1152921504606846976 < self.summed {
+            return true;
+        }
+        self.total < self.gap || self.total - self.gap < self.held
     }
-    if 281474976710656 < total {
-        return true;
-    }
-    if 1152921504606846976 < summed {
-        return true;
-    }
-    if total < gap {
-        return true;
-    }
-    total - gap < held
 }
 
-// 8, 9, 10 and 11 in rising order. A finish is checked as a feed of no bytes for which no end was announced.
-#[tactic(auto, unfolding(crate::specs::Reader::feed_checked, crate::specs::Reader::feed_checked_by, crate::specs::Reader::checked))]
-fn checks(state: State, announced: u64, window: usize, output: usize, piece: usize) -> Gate
-    ensures { result ≡ feed_checked (record { held = state.held; gap = state.gap; total = state.total; ended = announced; summed = state.summed }) window output piece }
+// 8 and 9 in rising order.
+#[tactic(auto, unfolding(crate::specs::Reader::checked))]
+fn check(state: State, window: usize, output: usize) -> Result<(), Refusal>
+    ensures { result ≡ checked state window output }
 {
-    if window < 6136 {
-        return Gate::Refused(Refusal::SmallBuffer);
+    if window < 6136 || output < 6136 {
+        return Err(Refusal::SmallBuffer);
     }
-    if output < 6136 {
-        return Gate::Refused(Refusal::SmallBuffer);
+    if state.is_bad() {
+        return Err(Refusal::BadState);
     }
-    if bad_state(state.held, state.gap, state.total, state.summed) {
-        return Gate::Refused(Refusal::BadState);
-    }
-    if announced != 0 {
-        return Gate::Refused(Refusal::Ended);
+    Ok(())
+}
+
+// 10 and 11 behind them, of a feed.
+#[tactic(auto, unfolding(crate::specs::Reader::feed_checked, crate::specs::Reader::feed_checked_by))]
+fn check_feed(state: State, window: usize, output: usize, piece: usize) -> Result<(), Refusal>
+    ensures { result ≡ feed_checked state window output piece }
+{
+    check(state, window, output)?;
+    if state.ended != 0 {
+        return Err(Refusal::Ended);
     }
     if 281474976710656 - state.total < piece as u64 {
-        return Gate::Refused(Refusal::TooMuch);
+        return Err(Refusal::TooMuch);
     }
-    Gate::Open
+    Ok(())
 }
 
 // ---- bytes that move
 
-// The bytes from index `from` up to index `to`, over the front of the buffer.
-fn copy_part(bytes: &[u8], from: usize, to: usize, buffer: &mut [u8])
-    requires { (from ≤ to) × (to ≤ length bytes.now) × (to - from ≤ length buffer.old) }
-    ensures { buffer.new ≡ over (take (to - from) (drop from bytes.now)) buffer.old }
+// The bytes, over the front of the buffer.
+fn put(bytes: &[u8], buffer: &mut [u8])
+    requires { length bytes.now ≤ length buffer.old }
+    ensures { buffer.new ≡ over bytes.now buffer.old }
 {
-    octets::copy(&bytes[from..to], buffer);
+    buffer[..bytes.len()].copy_from_slice(bytes);
 }
 
-// The n bytes from index `from` on, to the front of the window.
+// The n bytes from index `from` on, to the front of the window. Where they stand there, no byte is touched.
 fn shift(window: &mut [u8], from: usize, n: usize)
     requires { from + n ≤ length window.old }
     ensures { window.new ≡ paste window.old 0 (drop from window.old) n }
 {
-    if from == 0 {
-        return;
-    }
-    let mut i = 0;
-    while i < n {
-        window[i] = window[from + i];
-        i += 1;
+    if from != 0 {
+        window.copy_within(from..from + n, 0);
     }
 }
 
 // ---- a feed
-
-fn least(a: usize, b: usize) -> usize
-    ensures { (result ≤ a) × (result ≤ b) × (0 < a → 0 < b → 0 < result) }
-{
-    if a < b { a } else { b }
-}
 
 // How many bytes of a piece an unsettled position takes: as many as have to be here before more can be said of it, or all.
 fn wanted(held: &[u8], piece: usize) -> usize
@@ -152,8 +139,8 @@ fn wanted(held: &[u8], piece: usize) -> usize
     }
     match front::claims(held) {
         Claim::Nothing => 0,
-        Claim::AtLeast(n) => least(n - held.len(), piece),
-        Claim::Long(n) => least(n - held.len(), piece),
+        Claim::AtLeast(n) => piece.min(n - held.len()),
+        Claim::Long(n) => piece.min(n - held.len()),
     }
 }
 
@@ -165,23 +152,8 @@ fn pull(from: usize, n: usize, taken: usize, piece: &[u8], window: &mut [u8]) ->
     shift(window, from, n);
     let more = wanted(&window[..n], piece.len() - taken);
     let end = taken + more;
-    copy_part(piece, taken, end, &mut window[n..]);
+    put(&piece[taken..end], &mut window[n..]);
     more
-}
-
-fn comes_to(outcome: Outcome, summed: usize) -> Counted
-    ensures { result ≡ record { outcome = outcome; summed = summed } }
-{
-    Counted { outcome, summed }
-}
-
-// With the bytes that were summed before.
-fn added(summed: usize, rest: Counted) -> Counted
-    requires { summed + rest.summed < 2 ^ 64 }
-    ensures { result ≡ record { outcome = rest.outcome; summed = summed + rest.summed } }
-{
-    let outcome = rest.outcome;
-    comes_to(outcome, summed + rest.summed)
 }
 
 // The message of `size` bytes at `at` goes to the output, and the bytes held behind it to the window's front; answers how many these are.
@@ -191,7 +163,7 @@ fn hand_over(at: usize, size: usize, held: usize, window: &mut [u8], output: &mu
 {
     let end = at + size;
     let left = held - end;
-    copy_part(window, at, end, output);
+    put(&window[at..end], output);
     shift(window, end, left);
     left
 }
@@ -204,182 +176,226 @@ fn in_place(gap: usize, taken: usize, piece: &[u8], window: &mut [u8], output: &
 {
     let rest = &piece[taken..];
     let passage = division::walk(false, rest);
-    let walked = passage.walked;
     let summed = passage.summed;
-    match walked {
-        Walked::Message(at, length, reach) => {
+    match passage.walked {
+        Walked::Message {
+            gap: at,
+            length,
+            reach,
+        } => {
             let end = at + length;
-            copy_part(rest, at, end, output);
-            copy_part(rest, end, reach, window);
+            put(&rest[at..end], output);
+            put(&rest[end..reach], window);
             Counted {
-                outcome: Outcome::Message(length, gap + at, taken + reach, reach - end),
+                outcome: Outcome::Message {
+                    length,
+                    gap: gap + at,
+                    taken: taken + reach,
+                    held: reach - end,
+                },
                 summed,
             }
         }
-        Walked::Unsettled(at) => {
-            copy_part(rest, at, rest.len(), window);
+        Walked::Unsettled { gap: at } => {
+            put(&rest[at..], window);
             Counted {
-                outcome: Outcome::Nothing(gap + at, piece.len(), rest.len() - at),
+                outcome: Outcome::Nothing {
+                    gap: gap + at,
+                    taken: piece.len(),
+                    held: rest.len() - at,
+                },
                 summed,
             }
         }
     }
 }
 
-// Turn after turn over the held bytes, until a message is settled, all of the piece is taken, or no byte is held and the piece can be divided. At the end
-// of the stream there is no piece.
+// Turn after turn over the held bytes, until a message is settled, all of the piece is taken, or no byte is held and the piece can be divided.
 fn turns(
-    ended: bool,
     mut held: usize,
     mut gap: usize,
     piece: &[u8],
     window: &mut [u8],
     output: &mut [u8],
 ) -> Counted
-    requires { Begun ended held gap piece.now window.old output.old }
-    ensures { Divided ended held gap piece.now window.old output.old result window.new output.new }
+    requires { Begun held gap piece.now window.old output.old }
+    ensures { Divided false held gap piece.now window.old output.old result window.new output.new }
 {
     let mut taken = 0;
     let mut summed = 0;
+    // How far a turn comes is what the walk says and the piece has, so this is no `for`.
     loop {
-        let passage = division::walk(ended, &window[..held]);
-        let walked = passage.walked;
-        summed = summed + passage.summed;
-        match walked {
-            Walked::Message(at, length, _) => {
+        let passage = division::walk(false, &window[..held]);
+        summed += passage.summed;
+        match passage.walked {
+            Walked::Message {
+                gap: at,
+                length,
+                ..
+            } => {
                 let left = hand_over(at, length, held, window, output);
-                return comes_to(Outcome::Message(length, gap + at, taken, left), summed);
+                let outcome = Outcome::Message {
+                    length,
+                    gap: gap + at,
+                    taken,
+                    held: left,
+                };
+                return Counted { outcome, summed };
             }
-            Walked::Unsettled(at) => {
-                held = held - at;
-                gap = gap + at;
+            Walked::Unsettled { gap: at } => {
+                held -= at;
+                gap += at;
                 if held == 0 {
                     let rest = in_place(gap, taken, piece, window, output);
-                    return added(summed, rest);
+                    return Counted {
+                        outcome: rest.outcome,
+                        summed: summed + rest.summed,
+                    };
                 }
                 let more = pull(at, held, taken, piece, window);
                 if more == 0 {
-                    return comes_to(Outcome::Nothing(gap, taken, held), summed);
+                    let outcome = Outcome::Nothing { gap, taken, held };
+                    return Counted { outcome, summed };
                 }
-                held = held + more;
-                taken = taken + more;
+                held += more;
+                taken += more;
             }
         }
     }
 }
 
-// A call, from the bytes held on: where there are none, the piece is divided at once.
-fn divide(
-    ended: bool,
-    held: usize,
-    gap: usize,
-    piece: &[u8],
-    window: &mut [u8],
-    output: &mut [u8],
-) -> Counted
-    requires { Begun ended held gap piece.now window.old output.old }
-    ensures { Divided ended held gap piece.now window.old output.old result window.new output.new }
+// A feed, from the bytes held on: where there are none, the piece is divided at once.
+fn divide(state: State, piece: &[u8], window: &mut [u8], output: &mut [u8]) -> Counted
+    requires { Begun state.held state.gap piece.now window.old output.old }
+    ensures { Divided false state.held state.gap piece.now window.old output.old result window.new output.new }
 {
+    let held = state.held as usize;
+    let gap = state.gap as usize;
     if held == 0 {
         return in_place(gap, 0, piece, window, output);
     }
-    turns(ended, held, gap, piece, window, output)
+    turns(held, gap, piece, window, output)
+}
+
+// ---- the end of the stream
+
+// A finish, over the bytes held: none of them is left where no message is.
+fn divide_rest(state: State, window: &mut [u8], output: &mut [u8]) -> Counted
+    requires { Begun state.held state.gap [] window.old output.old }
+    ensures { Divided true state.held state.gap [] window.old output.old result window.new output.new }
+{
+    let held = state.held as usize;
+    let gap = state.gap as usize;
+    let passage = division::walk(true, &window[..held]);
+    let summed = passage.summed;
+    match passage.walked {
+        Walked::Message {
+            gap: at,
+            length,
+            ..
+        } => Counted {
+            outcome: Outcome::Message {
+                length,
+                gap: gap + at,
+                taken: 0,
+                held: hand_over(at, length, held, window, output),
+            },
+            summed,
+        },
+        Walked::Unsettled { gap: at } => Counted {
+            outcome: Outcome::Nothing {
+                gap: gap + at,
+                taken: 0,
+                held: held - at,
+            },
+            summed,
+        },
+    }
 }
 
 // ---- replies
 
-fn state_of(held: usize, gap: usize, total: usize, ended: bool, summed: usize) -> State
-    ensures { result ≡ record { held = held; gap = gap; total = total; ended = bool_byte ended; summed = summed } }
+// What the call took and summed is added to the state's counts; after a message no gap stands before the bytes held.
+fn reply_of(state: State, ended: bool, counted: Counted) -> Reply
+    requires { (state.summed + counted.summed < 2 ^ 64) × ((reply_after state ended counted).state.total < 2 ^ 64) }
+    ensures { result ≡ reply_after state ended counted }
 {
-    State {
-        held: held as u64,
-        gap: gap as u64,
-        total: total as u64,
-        ended: ended as u64,
-        summed: summed as u64,
-    }
-}
-
-// The answer with no message: the end, or more is needed.
-fn no_message(ended: bool, gap: usize) -> Answer
-    ensures { result ≡ no_message ended gap }
-{
-    if ended {
-        return Answer::End { gap: gap as u64 };
-    }
-    Answer::NeedsMore
-}
-
-// After a message no gap stands before the bytes held.
-fn reply_of(total: usize, ended: bool, outcome: Outcome, summed: usize) -> Reply
-    requires { (reply_to total ended outcome summed).state.total < 2 ^ 64 }
-    ensures { result ≡ reply_to total ended outcome summed }
-{
-    match outcome {
-        Outcome::Message(length, gap, taken, held) => Reply {
-            answer: Answer::Message {
-                length: length as u64,
-                gap: gap as u64,
-                taken: taken as u64,
-            },
-            state: state_of(held, 0, total + taken, ended, summed),
-        },
-        Outcome::Nothing(gap, taken, held) => Reply {
-            answer: no_message(ended, gap),
-            state: state_of(held, gap, total + taken, ended, summed),
+    let summed = state.summed + counted.summed as u64;
+    let (answer, gap, taken, held) = match counted.outcome {
+        Outcome::Message {
+            length,
+            gap,
+            taken,
+            held,
+        } => {
+            let length = length as u64;
+            let gap = gap as u64;
+            let taken = taken as u64;
+            (Answer::Message { length, gap, taken }, 0, taken, held)
+        }
+        Outcome::Nothing { gap, taken, held } => {
+            let gap = gap as u64;
+            let answer = if ended {
+                Answer::End { gap }
+            } else {
+                Answer::NeedsMore
+            };
+            (answer, gap, taken as u64, held)
+        }
+    };
+    Reply {
+        answer: Ok(answer),
+        state: State {
+            held: held as u64,
+            gap,
+            total: state.total + taken,
+            ended: ended as u64,
+            summed,
         },
     }
 }
 
-// The reply, with what the call summed added to the count, and zeros behind the bytes held.
+// The reply, and zeros behind the bytes held.
 fn conclude(state: State, ended: bool, counted: Counted, window: &mut [u8]) -> Reply
     requires { (state.summed + counted.summed < 2 ^ 64) × ((reply_after state ended counted).state.total < 2 ^ 64) × ((reply_after state ended counted).state.held ≤ length window.old) }
     ensures { (result ≡ reply_after state ended counted) × (window.new ≡ take result.state.held window.old ++ replicate (length window.old - result.state.held) 0) }
 {
-    let outcome = counted.outcome;
-    let summed = state.summed as usize + counted.summed;
-    let reply = reply_of(state.total as usize, ended, outcome, summed);
+    let reply = reply_of(state, ended, counted);
     let left = reply.state.held as usize;
-    octets::clear(&mut window[left..]);
+    window[left..].fill(0);
     reply
 }
 
 // ---- the calls
 
-fn refused(state: State, refusal: Refusal) -> Reply
-    ensures { result ≡ record { answer = Answer.Refused refusal; state = state } }
-{
-    Reply {
-        answer: Answer::Refused(refusal),
-        state,
-    }
-}
-
 // The fewest bytes of the piece that settle the next message, or all of it (8, 9, 10, 11).
 pub fn feed(state: State, piece: &[u8], window: &mut [u8], output: &mut [u8]) -> Reply
     ensures { Leaves (feed_call state piece.now window.old output.old) result window.new output.new }
 {
-    match checks(state, state.ended, window.len(), output.len(), piece.len()) {
-        Gate::Refused(refusal) => refused(state, refusal),
-        Gate::Open => {
-            let held = state.held as usize;
-            let gap = state.gap as usize;
-            let counted = divide(false, held, gap, piece, window, output);
+    match check_feed(state, window.len(), output.len(), piece.len()) {
+        Err(refusal) => Reply {
+            answer: Err(refusal),
+            state,
+        },
+        Ok(()) => {
+            let counted = divide(state, piece, window, output);
             conclude(state, false, counted, window)
         }
     }
 }
 
-// The end of the stream: the remaining messages one a call, then the end, the same each time after (8, 9).
+// The end of the stream: the remaining messages one a call, then the end, the same each time after (8, 9). Its checks and its walk are not those of a
+// feed, and a body for both would need a flag to tell them apart.
 pub fn finish(state: State, window: &mut [u8], output: &mut [u8]) -> Reply
     ensures { Leaves (finish_call state window.old output.old) result window.new output.new }
 {
-    match checks(state, 0, window.len(), output.len(), 0) {
-        Gate::Refused(refusal) => refused(state, refusal),
-        Gate::Open => {
-            let held = state.held as usize;
-            let gap = state.gap as usize;
-            let counted = divide(true, held, gap, b"", window, output);
+    match check(state, window.len(), output.len()) {
+        Err(refusal) => Reply {
+            answer: Err(refusal),
+            state,
+        },
+        Ok(()) => {
+            let counted = divide_rest(state, window, output);
             conclude(state, true, counted, window)
         }
     }
@@ -389,5 +405,11 @@ pub fn finish(state: State, window: &mut [u8], output: &mut [u8]) -> Reply
 pub fn fresh() -> State
     ensures { result ≡ fresh_state }
 {
-    state_of(0, 0, 0, false, 0)
+    State {
+        held: 0,
+        gap: 0,
+        total: 0,
+        ended: 0,
+        summed: 0,
+    }
 }

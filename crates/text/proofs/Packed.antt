@@ -149,13 +149,3 @@ packed_bytes n h =
     ∙ places_joined (n / 1000000) (n / 10000 % 100) (n / 100 % 100) (n % 100) (n / 1000000 / 10) (n / 10000 % 100 / 10) (n / 100 % 100 / 10) (n % 100 / 10)
     ∙ sym (spelled_packed n h) in
     ap (bytes_of 8) e ∙ spelled_bytes 8 n
-
--- ---- no step passes 64 bits
-pub hundreds_fit : (n : ℕ) → n < 100000000 → hundreds n < 0x6400000000
-hundreds_fit n h = let e = hundreds_are n h in omega (arith, e)
-
-pub pairs_fit : (n : ℕ) → n < 100000000 → pairs n < 0x64000000000000
-pairs_fit n h = let e = pairs_are n h in omega (arith, e)
-
-pub tens_fit : (n : ℕ) → n < 100000000 → tens n < 0xA000000000000
-tens_fit n h = let e = tens_are n h in omega (arith, e)

@@ -1,17 +1,25 @@
 -- Laws of text that is put into a buffer. Assumes nothing.
-use Prim.Native.Nat.{ℕ, suc, ◌+◌, ◌-◌, ◌≤◌, ◌<◌}
+use Prim.Native.Nat.{ℕ, suc, ◌+◌, ◌≤◌, ◌<◌}
 use mathlib.Core.Path.{◌≡◌, refl, sym, ap, ap₂, ◌∙◌}
 use mathlib.Core.Bool.{Bool, true, false, cond}
-use mathlib.Core.List.{List, [], ◌∷◌, ◌++◌, append-nil}
+use mathlib.Core.List.{List, [], ◌∷◌, ◌++◌}
 use native.Mathlib.Omega.{arith}
 use native.Mathlib.Numerals.{add-one}
 use native.Mathlib.Nat.{add-zero}
 use borrow.Author.Tests.{lt-ltb, le-ltb, ltb-true, ltb-false}
 use lib.Dec.{ltb}
 use lib.ListN.{length, set, take, drop, length-set, length-append, length-drop, take-append-drop}
-use lib.Seq.{set_out, set_at, append_snoc, take-nil, take_all, take_at, drop-length, length-take-le}
-use Rattle.octets.specs.Parts.{part, over}
-use Rattle.text.specs.Put.{behind, written, after, Puts}
+use lib.Seq.{set_out, set_at, append_snoc, take-nil, take_all, take_at, length-take-le}
+use Rattle.octets.specs.Parts.{over}
+use Rattle.text.specs.declared.Text.{Text}
+use Rattle.text.specs.Put.{behind, written, after, appended}
+
+-- a text whose buffer holds other bytes, and with another end
+abbrev pub moved : Text → List ℕ → ℕ → Text
+moved text out at = record { buffer = record text.buffer { now = out }; at = at }
+
+moved_same : (text : Text) {out out' : List ℕ} {at at' : ℕ} → out ≡ out' → at ≡ at' → moved text out at ≡ moved text out' at'
+moved_same text p q = ap₂ (moved text) p q
 
 -- the buffer keeps its length
 pub length_written : (out : List ℕ) (at : ℕ) (t : List ℕ) → length (written out at t) ≡ length out
@@ -19,18 +27,19 @@ unfolding written
 length_written out at [] = refl
 length_written out at (b ∷ t) = length_written (set out at b) (behind (length out) at) t ∙ length-set out at b
 
-pub puts_length : {out : List ℕ} {at : ℕ} {t : List ℕ} {at' : ℕ} {out' : List ℕ} → Puts out at t at' out' → length out' ≡ length out
-puts_length {out} {at} {t} p = ap length p.bytes ∙ length_written out at t
+pub length_appended : (t : List ℕ) (text : Text) → length (appended t text).buffer.now ≡ length text.buffer.now
+unfolding appended
+length_appended t text = length_written text.buffer.now text.at t
 
 -- nothing put
-pub puts_none : (out : List ℕ) (at : ℕ) → Puts out at [] at out
-unfolding written after
-puts_none out at = record { next = refl; bytes = refl }
+pub appended_none : (text : Text) → text ≡ appended [] text
+unfolding written after appended
+appended_none text = refl
 
 -- a byte put where there is room for it
-pub puts_one : (out : List ℕ) (at b : ℕ) → at < length out → Puts out at (b ∷ []) (at + 1) (set out at b)
-unfolding written after
-puts_one out at b h = record { next = rw (lt-ltb at (length out) h); bytes = refl }
+pub appended_one : (text : Text) (b : ℕ) → text.at < length text.buffer.now → moved text (set text.buffer.now text.at b) (text.at + 1) ≡ appended (b ∷ []) text
+unfolding written after appended
+appended_one text b h = moved_same text refl (rw (lt-ltb text.at (length text.buffer.now) h))
 
 -- two texts put one behind the other are their join, put
 pub written_join : (out : List ℕ) (at : ℕ) (s t : List ℕ) → written (written out at s) (after (length out) at s) t ≡ written out at (s ++ t)
@@ -45,15 +54,13 @@ unfolding after
 after_join len at [] t = refl
 after_join len at (b ∷ s) t = after_join len (behind len at) s t
 
-pub puts_join :
-    {out : List ℕ} {at : ℕ} {s : List ℕ} {at₁ : ℕ} {out₁ : List ℕ} {t : List ℕ} {at₂ : ℕ} {out₂ : List ℕ} →
-    Puts out at s at₁ out₁ →
-    Puts out₁ at₁ t at₂ out₂ →
-    Puts out at (s ++ t) at₂ out₂
-puts_join {out} {at} {s} {t = t} p q = record {
-  next = q.next ∙ rw (p.next, p.bytes, length_written) (after_join (length out) at s t);
-  bytes = q.bytes ∙ rw (p.next, p.bytes) (written_join out at s t);
-}
+pub appended_join : (s t : List ℕ) (text : Text) → appended t (appended s text) ≡ appended (s ++ t) text
+unfolding appended
+appended_join s t text =
+    let out = text.buffer.now in
+    moved_same text (written_join out text.at s t) (ap (λ n. after n (after (length out) text.at s) t) (length_written out text.at s) ∙ after_join (length out) text.at s t)
+
+pub ruleset appended_twice = appended_join
 
 -- the place behind a text: where it has room, where it is cut off, and past the end
 next_in : (len at : ℕ) → at < len → behind len at ≡ suc at
@@ -83,6 +90,11 @@ unfolding written
 written_past out at [] h = refl
 written_past out at (b ∷ t) h = rw (le-ltb at (length out) h, set_out out at b h) (written_past out at t h)
 
+-- past the end nothing is put
+pub appended_past : (t : List ℕ) (text : Text) → length text.buffer.now ≤ text.at → text ≡ appended t text
+unfolding appended
+appended_past t text h = moved_same text (sym (written_past text.buffer.now text.at t h)) (sym (after_past (length text.buffer.now) text.at t h))
+
 -- what a text that is put leaves: it stands over what was there, as far as there is room
 over_front : (front rest t : List ℕ) → written (front ++ rest) (length front) t ≡ front ++ over (take (length rest) t) rest
 unfolding written
@@ -99,46 +111,46 @@ written_over out at t h =
     ap₂ (λ o j. written o j t) (sym (take-append-drop at out)) (sym (length-take-le at out h)) ∙ over_front (take at out) (drop at out) t
 
 -- bytes that a part of the buffer was given: a text that has room there
-pub puts_placed : (out w t : List ℕ) (at k : ℕ) → length t ≡ k → at + k ≤ length out → w ≡ t → Puts out at t (at + k) (take at out ++ (w ++ drop k (drop at out)))
-puts_placed out w t at k l h e =
+pub appended_whole : (text : Text) (w t : List ℕ) (k : ℕ) → length t ≡ k → text.at + k ≤ length text.buffer.now → w ≡ t
+    → moved text (take text.at text.buffer.now ++ (w ++ drop k (drop text.at text.buffer.now))) (text.at + k) ≡ appended t text
+unfolding appended
+appended_whole text w t k l h e =
+    let out = text.buffer.now in
+    let at = text.at in
     let n : length t ≤ length (drop at out) = omega (arith, length-drop at out) in
     let o : take (length (drop at out)) t ≡ t = take_all (length (drop at out)) t n in
-    record {
-      next = sym (after_room (length out) at t (omega arith) ∙ ap (λ j. at + j) l);
-      bytes = ap₂ (λ r j. take at out ++ (r ++ drop j (drop at out))) e (sym l) ∙ ap (λ r. take at out ++ over r (drop at out)) (sym o) ∙ sym (written_over out at t (omega arith));
-    }
-
--- a text copied there whole
-pub copied : (out w t : List ℕ) (at k : ℕ) → length t ≡ k → at + k ≤ length out → w ≡ over (take (length (part at k out)) t) (part at k out) → w ≡ t
-copied out w t at k l h e =
-    let p = part at k out in
-    let n : length p ≡ length t = length-take-le k (drop at out) (omega (arith, length-drop at out)) ∙ sym l in
-    let q : drop (length t) p ≡ [] = ap (λ j. drop j p) (sym n) ∙ drop-length p in
-    e ∙ ap (λ r. over r p) (take_all (length p) t (omega (arith, n))) ∙ ap (λ r. t ++ r) q ∙ append-nil t
+    moved_same text
+    (ap₂ (λ r j. take at out ++ (r ++ drop j (drop at out))) e (sym l) ∙ ap (λ r. take at out ++ over r (drop at out)) (sym o) ∙ sym (written_over out at t (omega arith)))
+    (sym (after_room (length out) at t (omega arith) ∙ ap (λ j. at + j) l))
 
 -- and as much of a text as there is room for
-pub puts_cut : (out w t : List ℕ) (at : ℕ) → at ≤ length out → length out ≤ at + length t
-    → w ≡ over (take (length (part at (length out - at) out)) t) (part at (length out - at) out) → Puts out at t (length out) (take at out ++ (w ++ drop (length out - at) (drop at out)))
-puts_cut out w t at h k e =
-    let rest = drop at out in
-    let l : length rest ≡ length out - at = length-drop at out in
-    let p : part at (length out - at) out ≡ rest = take_all (length out - at) rest (omega (arith, l)) in
-    let q : drop (length out - at) rest ≡ [] = ap (λ j. drop j rest) (sym l) ∙ drop-length rest in
-    record {
-      next = sym (after_cut (length out) at t h k);
-      bytes = ap₂ (λ r u. take at out ++ (r ++ u)) (e ∙ ap (λ r. over (take (length r) t) r) p) q ∙ ap (λ r. take at out ++ r) (append-nil (over (take (length rest) t) rest)) ∙ sym (written_over out at t h);
-    }
+pub appended_cut : (text : Text) (w t : List ℕ) (k : ℕ) → text.at + k ≡ length text.buffer.now → k ≤ length t → w ≡ take k t
+    → moved text (take text.at text.buffer.now ++ (w ++ drop k (drop text.at text.buffer.now))) (text.at + k) ≡ appended t text
+unfolding appended
+appended_cut text w t k h l e =
+    let out = text.buffer.now in
+    let rest = drop text.at out in
+    let r : length rest ≡ k = omega (arith, length-drop text.at out) in
+    let c : length (take k t) ≡ k = length-take-le k t l in
+    moved_same text
+    (ap (λ v. take text.at out ++ (v ++ drop k rest)) e ∙ ap (λ j. take text.at out ++ (take k t ++ drop j rest)) (sym c) ∙ ap (λ j. take text.at out ++ over (take j t) rest) (sym r) ∙ sym (written_over out text.at t (omega arith)))
+    (h ∙ sym (after_cut (length out) text.at t (omega arith) (omega arith)))
 
 -- put at the front of a buffer with room for it, a text is what the buffer begins with
-pub puts_front : {out : List ℕ} {t : List ℕ} {at' : ℕ} {out' : List ℕ} → Puts out 0 t at' out' → length t ≤ length out → take at' out' ≡ t
-puts_front {out} {t} p h =
-    let k : after (length out) 0 t ≡ length t = after_room (length out) 0 t (omega arith) ∙ omega arith in
-    ap₂ (λ j o. take j o) (p.next ∙ k) (p.bytes ∙ written_over out 0 t (omega arith) ∙ ap (λ r. over r out) (take_all (length out) t h))
+pub appended_front : (t : List ℕ) (text : Text) → text.at ≡ 0 → length t ≤ length text.buffer.now → take (appended t text).at (appended t text).buffer.now ≡ t
+unfolding appended
+appended_front t text z h =
+    let out = text.buffer.now in
+    let k : after (length out) text.at t ≡ length t = ap (λ at. after (length out) at t) z ∙ after_room (length out) 0 t (omega arith) ∙ omega arith in
+    ap₂ (λ j o. take j o) k (ap (λ at. written out at t) z ∙ written_over out 0 t (omega arith) ∙ ap (λ r. over r out) (take_all (length out) t h))
     ∙ take_at t (drop (length t) out) (length t) refl
 
 -- a last byte that has no room is not put
-pub last_cut : (out : List ℕ) (at : ℕ) (t : List ℕ) (b : ℕ) → at ≤ length out → length out ≤ at + length t → written out at (t ++ (b ∷ [])) ≡ written out at t
-unfolding written
-last_cut out at t b h k =
-    let w : length (written out at t) ≡ length out = length_written out at t in
-    sym (written_join out at t (b ∷ [])) ∙ set_out (written out at t) (after (length out) at t) b (omega (arith, after_cut (length out) at t h k))
+pub appended_last : (t : List ℕ) (b : ℕ) (text : Text) → text.at ≤ length text.buffer.now → length text.buffer.now ≤ text.at + length t → appended (t ++ (b ∷ [])) text ≡ appended t text
+unfolding appended
+appended_last t b text h k =
+    let out = text.buffer.now in
+    let w : length (written out text.at t) ≡ length out = length_written out text.at t in
+    let l : length out ≤ text.at + length (t ++ (b ∷ [])) = omega (arith, length-append t (b ∷ [])) in
+    let cut = after_cut (length out) text.at t h k in
+    moved_same text (sym (written_join out text.at t (b ∷ [])) ∙ written_past (written out text.at t) (after (length out) text.at t) (b ∷ []) (omega (arith, cut))) (after_cut (length out) text.at (t ++ (b ∷ [])) h l ∙ sym cut)

@@ -2,16 +2,17 @@
 use Prim.Native.Nat.{ℕ, zero, suc, ◌+◌, ◌*◌, ◌/◌, ◌%◌, ◌^◌, ◌≤◌, ◌<◌}
 use mathlib.Core.Path.{◌≡◌, refl, sym, ap, ap₂, ◌∙◌}
 use mathlib.Core.Bool.{Bool, true, false, cond}
-use mathlib.Core.List.{List, [], ◌∷◌, ◌++◌, append-nil, append_assoc}
+use mathlib.Core.List.{[], ◌∷◌, ◌++◌, append-nil, append_assoc}
 use native.Mathlib.Omega.{arith}
-use native.Mathlib.Nat.{zero-add, suc-add, pow-suc, mul_comm, mod-lt, mod-eq_of_lt, div-div-eq-div-mul}
+use native.Mathlib.Nat.{zero-add, suc-add, pow-suc, mul_comm, mod-lt, mod-eq_of_lt, div-div-eq-div-mul, div-lt_iff_lt-mul}
 use borrow.Author.Tests.{lt-ltb}
 use lib.Dec.{ltb}
 use lib.Arith.{mod-mul}
 use lib.ListN.{length, set, length-set}
 use Rattle.text.specs.Digits.{digit_of, digits, needed, decimal}
-use Rattle.text.specs.Put.{written, after, Puts}
-use Rattle.text.proofs.PutLaws.{puts_one, puts_join}
+use Rattle.text.specs.declared.Text.{Text}
+use Rattle.text.specs.Put.{appended}
+use Rattle.text.proofs.PutLaws.{moved, appended_one, appended_join}
 use Rattle.text.proofs.Spelling.{digit_ten, needed_last, needed_more, tenth_fits}
 
 ten_pos : (k : ℕ) → 0 < 10 ^ k
@@ -76,10 +77,16 @@ decimal_pairs n h l =
     decimal_split 2 n h (omega arith)
     ∙ ap (λ r. r ++ digits 10 2 (n % 100)) (decimal_split 2 (n / 100) (omega arith) (omega arith) ∙ ap (λ m. decimal m ++ digits 10 2 (n / 100 % 100)) (div-div-eq-div-mul n 100 100))
 
--- a number of just k + 1 digits
-pub decimal_exact : (k n : ℕ) → n < 10 ^ 20 → 10 ^ k ≤ n → n / 10 ^ k < 10 → decimal n ≡ digits 10 (suc k) n
+-- a number of just k + 1 digits, and of one
+pub needed_exact : (k n : ℕ) → n < 10 ^ 20 → 10 ^ k ≤ n → n < 10 * 10 ^ k → k + 1 ≡ needed 20 n
+needed_exact k n h l f = sym (needed_split k n h l ∙ ap (λ j. k + j) (needed_last 19 (n / 10 ^ k) ((div-lt_iff_lt-mul (ten_pos k)).1 f)))
+
+pub needed_one : (n : ℕ) → n ≡ 0 → 1 ≡ needed 20 n
+needed_one n z = sym (needed_last 19 n (omega arith))
+
+pub decimal_exact : (k n : ℕ) → n < 10 ^ 20 → 10 ^ k ≤ n → n < 10 * 10 ^ k → decimal n ≡ digits 10 (suc k) n
 decimal_exact k n h l f =
-    let e : needed 20 n ≡ suc k = needed_split k n h l ∙ ap (λ j. k + j) (needed_last 19 (n / 10 ^ k) f) ∙ omega arith in
+    let e : needed 20 n ≡ suc k = sym (needed_exact k n h l f) ∙ omega arith in
     ap (λ j. digits 10 j n) e
 
 -- of one digit
@@ -88,25 +95,16 @@ unfolding digits
 decimal_digit n h =
     ap (λ j. digits 10 j n) (needed_last 19 n h) ∙ ap (λ d. digit_of d ∷ []) (mod-eq_of_lt h) ∙ ap (λ b. b ∷ []) (sym (digit_ten n h))
 
--- and that digit put
-module _ (out : List ℕ) (at n : ℕ) (room : at < length out) (digit : n < 10) where
-  digit_put : Puts out at (decimal n) (at + 1) (set out at (48 + n))
-  digit_put = rw (decimal_digit n digit) (puts_one out at (48 + n) room)
-
-  pub digit_next : at + 1 ≡ after (length out) at (decimal n)
-  digit_next = digit_put.next
-
-  pub digit_bytes : set out at (48 + n) ≡ written out at (decimal n)
-  digit_bytes = digit_put.bytes
-
 -- two digits set one behind the other
-pub pair_set : (out : List ℕ) (at n : ℕ) → at + 2 ≤ length out → n < 100 → Puts out at (digits 10 2 n) (at + 2) (set (set out at (48 + n / 10)) (at + 1) (48 + n % 10))
+pub pair_set : (text : Text) (n : ℕ) → text.at + 2 ≤ length text.buffer.now → n < 100
+    → moved text (set (set text.buffer.now text.at (48 + n / 10)) (text.at + 1) (48 + n % 10)) (text.at + 2) ≡ appended (digits 10 2 n) text
 unfolding digits
-pair_set out at n h l =
+pair_set text n h l =
     let t = 48 + n / 10 in
     let u = 48 + n % 10 in
     let r : n / 10 % 10 ≡ n / 10 = mod-eq_of_lt (omega arith) in
     let high : t ≡ digit_of (n / 10 % 10) = digit_ten (n / 10) (omega arith) ∙ ap digit_of (sym r) in
     let low : u ≡ digit_of (n % 10) = digit_ten (n % 10) (mod-lt n (omega arith)) in
-    let z : at + 2 ≡ at + 1 + 1 = omega arith in
-    rw (z, ← high, ← low) (puts_join (puts_one out at t (omega arith)) (puts_one (set out at t) (at + 1) u (simp length-set (omega arith))))
+    let z : text.at + 2 ≡ text.at + 1 + 1 = omega arith in
+    let first = moved text (set text.buffer.now text.at t) (text.at + 1) in
+    rw (z, ← high, ← low) (appended_one first u (simp length-set (omega arith)) ∙ ap (appended (u ∷ [])) (appended_one text t (omega arith)) ∙ appended_join (t ∷ []) (u ∷ []) text)

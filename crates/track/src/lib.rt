@@ -1,10 +1,10 @@
 // Numbers for the people who compute the track, from the fields that a message carries: range, plot row, phase, CONDITION and OFFSET.
 #![tactic(auto)]
 
-ghost use Rattle.std.specs.Prelude.{◌≡◌};
+ghost use Rattle.std.specs.Prelude.{◌≡◌, ◌<◌};
 ghost use Rattle.track.specs.Range.{range_of};
 ghost use Rattle.track.specs.Row.{row_of, Bounded};
-ghost use Rattle.track.specs.Condition.{polarity_code, polarity_of, flags_of, condition_of};
+ghost use Rattle.track.specs.Condition.{bit, polarity_code, polarity_of, flags_of, condition_of};
 ghost use Rattle.track.specs.Shown.{cycles_with, phase_of, offset_of, PhaseShows, OffsetShows};
 
 use macm::{Form, Header, Observation};
@@ -13,14 +13,14 @@ mod narrow;
 
 // A row for the plot: range in metres and rate in hertz.
 #[repr(C)]
-#[derive(Clone, Copy)]
+#[derive(Clone, Copy, Debug, PartialEq)]
 pub struct PlotRow {
     pub range: f64,
     pub rate: f64,
 }
 
 // PHASE as it may be shown, with what its polarity says of it. Cycles are the double with the bits of the message: nothing is added to them.
-#[derive(Clone, Copy)]
+#[derive(Clone, Copy, Debug, PartialEq)]
 pub enum Phase {
     // An observation of the old form, or one whose CONDITION says that PHASE is not valid.
     Withheld,
@@ -37,7 +37,7 @@ pub enum Phase {
 }
 
 // OFFSET as it may be shown.
-#[derive(Clone, Copy)]
+#[derive(Clone, Copy, Debug, PartialEq)]
 pub enum Offset {
     // An infinity or a NaN.
     NotFinite,
@@ -46,7 +46,7 @@ pub enum Offset {
 }
 
 // PHASE Polarity State, by its code.
-#[derive(Clone, Copy)]
+#[derive(Clone, Copy, Debug, PartialEq, Eq)]
 pub enum Polarity {
     // 0.
     NotKnown,
@@ -59,7 +59,7 @@ pub enum Polarity {
 }
 
 // CONDITION in the new form, by the names of 000's table 5. `maker` is the four highest bits, which the maker defines.
-#[derive(Clone, Copy)]
+#[derive(Clone, Copy, Debug, PartialEq, Eq)]
 pub struct Flags {
     pub satellite_health: bool,
     pub pr_validity: bool,
@@ -75,7 +75,7 @@ pub struct Flags {
 }
 
 // What CONDITION says: in the old form the maker defines every bit.
-#[derive(Clone, Copy)]
+#[derive(Clone, Copy, Debug, PartialEq, Eq)]
 pub enum Condition {
     Flagged(Flags),
     MakerDefined(u16),
@@ -120,10 +120,10 @@ pub fn phase_of(form: Form, observation: Observation) -> Phase
     ensures { (result ≡ phase_of form observation) × PhaseShows result observation.phase }
 {
     let bits = observation.phase;
-    if let Form::Old { version: _ } = form {
+    if let Form::Old { .. } = form {
         return Phase::Withheld;
     }
-    if observation.condition / 4 % 2 == 0 {
+    if !bit(observation.condition, 2) {
         return Phase::Withheld;
     }
     if bits / 0x10_0000_0000_0000 % 0x800 == 0x7FF {
@@ -147,7 +147,8 @@ pub fn offset_of(header: Header) -> Offset
 
 // ---- CONDITION
 
-// By the code in bits 8 to 10: 1 to 4 and 6 are undefined, and from 8 on no code fits three bits.
+// By the code in bits 8 to 10, of which 0, 5 and 7 are defined. No From<u8>: it is of CONDITION, so that the code's bits are cut out in one place.
+#[tactic(auto, unfolding(crate::specs::Condition::polarity_of))]
 fn polarity_of(condition: u16) -> Polarity
     ensures { result ≡ polarity_of (polarity_code condition) }
 {
@@ -156,27 +157,35 @@ fn polarity_of(condition: u16) -> Polarity
         0 => Polarity::NotKnown,
         5 => Polarity::NotCorrected,
         7 => Polarity::NeedsHalfCycle,
-        1..=4 | 6 | 8..=255 => Polarity::Undefined(code),
+        _ => Polarity::Undefined(code),
     }
 }
 
 // Bit k stands for 2^k.
+fn bit(condition: u16, k: u32) -> bool
+    requires { k < 16 }
+    ensures { result ≡ bit k condition }
+{
+    (condition >> k) % 2 == 1
+}
+
+#[tactic(auto, unfolding(crate::specs::Condition::flags_of))]
 fn flags_of(condition: u16) -> Flags
     ensures { result ≡ flags_of condition }
 {
     let polarity = polarity_of(condition);
     let maker = (condition / 4096) as u8;
     Flags {
-        satellite_health: condition % 2 == 1,
-        pr_validity: condition / 2 % 2 == 1,
-        phase_validity: condition / 4 % 2 == 1,
-        rate_validity: condition / 8 % 2 == 1,
-        pr_iono_corrected: condition / 16 % 2 == 1,
-        phase_iono_corrected: condition / 32 % 2 == 1,
-        pr_tropo_corrected: condition / 64 % 2 == 1,
-        phase_tropo_corrected: condition / 128 % 2 == 1,
+        satellite_health: bit(condition, 0),
+        pr_validity: bit(condition, 1),
+        phase_validity: bit(condition, 2),
+        rate_validity: bit(condition, 3),
+        pr_iono_corrected: bit(condition, 4),
+        phase_iono_corrected: bit(condition, 5),
+        pr_tropo_corrected: bit(condition, 6),
+        phase_tropo_corrected: bit(condition, 7),
         polarity,
-        jam_detect: condition / 2048 % 2 == 1,
+        jam_detect: bit(condition, 11),
         maker,
     }
 }
@@ -186,7 +195,7 @@ pub fn condition_of(form: Form, observation: Observation) -> Condition
     ensures { result ≡ condition_of form observation }
 {
     match form {
-        Form::New { signal: _, tfom: _ } => Condition::Flagged(flags_of(observation.condition)),
-        Form::Old { version: _ } => Condition::MakerDefined(observation.condition),
+        Form::New { .. } => Condition::Flagged(flags_of(observation.condition)),
+        Form::Old { .. } => Condition::MakerDefined(observation.condition),
     }
 }

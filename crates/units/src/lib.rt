@@ -5,11 +5,11 @@ ghost use Rattle.std.specs.Prelude.{◌≡◌};
 ghost use Rattle.units.specs.Units.{lock_of, millis_of, count_in, millis_in, lock_millis, sum_of};
 
 // LOCKTIME as a message carries it. The field is private, so that a count is never taken for a time by accident.
-#[derive(Clone, Copy)]
+#[derive(Clone, Copy, Debug, PartialEq, Eq)]
 pub struct LockCount(u32);
 
 // Milliseconds, of the GNSS week or since lock: a lock count of 32 bits takes 33.
-#[derive(Clone, Copy)]
+#[derive(Clone, Copy, Debug, PartialEq, Eq)]
 pub struct Millis(u64);
 
 impl LockCount {
@@ -51,5 +51,5 @@ pub fn since_lock(lock: LockCount) -> Millis
 pub fn plus(a: Millis, b: Millis) -> Millis
     ensures { result ≡ sum_of a b }
 {
-    Millis(std::num::wrapping_add_u64(a.0, b.0))
+    Millis(a.0.wrapping_add(b.0))
 }

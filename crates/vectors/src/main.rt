@@ -3,204 +3,195 @@
 #![tactic(auto)]
 
 use division::Next;
-use macm::Verdict;
-use novatel::{Correction, Reading, Record};
+use novatel::{Corrected, Record};
+use refusal::Refusal;
 use std::io::{Read, Write};
 use std::{fs, io};
 use stream::{Answer, Reply};
+use text::Text;
 
 // ---- lines
 
-// A word, a number, and the line's end.
-fn put_count(text: &mut [u8], at: usize, word: &[u8], n: u64) -> usize {
-    let next = text::put_all(text, at, word);
-    let next = text::put_decimal(text, next, n);
-    text::put(text, next, b'\n')
+// A word and a number that may be negative.
+fn put_signed(text: &mut Text, word: &[u8], z: i64) {
+    text.put_all(word);
+    if z < 0 {
+        text.put(b'-');
+    }
+    text.put_number(z.unsigned_abs(), b'\n');
 }
 
-// The same of a number that may be negative.
-fn put_signed(text: &mut [u8], at: usize, word: &[u8], z: i64) -> usize {
-    let raw = octets::raw_in(z, 64);
-    if z < 0 {
-        let next = text::put_all(text, at, word);
-        return put_count(
-            text,
-            next,
-            b"-",
-            std::num::wrapping_add_u64(u64::MAX - raw, 1),
-        );
-    }
-    put_count(text, at, word, raw)
+// A refusal by its number.
+fn put_refused(text: &mut Text, refusal: Refusal) {
+    text.put_count(b"refused ", refusal::number(refusal), b'\n');
 }
 
 // A message after its gap: its line and its rows.
-fn put_given(text: &mut [u8], at: usize, gap: u64, position: u64, message: &[u8]) -> usize {
-    let next = put_count(text, at, b"gap ", gap);
-    let next = lines::put_line(text, next, position, message);
-    lines::put_rows(text, next, position, message)
+fn put_given(text: &mut Text, gap: u64, position: u64, message: &[u8]) {
+    text.put_count(b"gap ", gap, b'\n');
+    lines::put_line(text, position, message);
+    lines::put_rows(text, position, message);
 }
 
-// A recording by the plain reader, started at 0 and then at each message's end.
-fn put_recording(text: &mut [u8], at: usize, recording: &[u8]) -> usize {
-    let mut next = at;
+// A recording by the plain reader, started at 0 and then at each message's end: there are no more messages than bytes.
+fn put_recording(text: &mut Text, recording: &[u8]) {
     let mut start = 0;
-    for _ in 0..u64::MAX {
+    for _ in 0..=recording.len() {
         match division::next_message(recording, start) {
-            Next::Message {
-                position,
-                length,
-                gap,
-            } => {
+            Ok(
+                Next::Message {
+                    position,
+                    length,
+                    gap,
+                },
+            ) => {
                 let message = division::message_part(recording, start);
-                next = put_given(text, next, gap as u64, position as u64, message);
-                start = std::num::wrapping_add_usize(position, length);
+                put_given(text, gap as u64, position as u64, message);
+                start = position + length;
             }
-            Next::End { gap } => return put_count(text, next, b"gap ", gap as u64),
-            Next::Refused(_) => return next,
+            Ok(Next::End { gap }) => {
+                text.put_count(b"gap ", gap as u64, b'\n');
+                return;
+            }
+            Err(_) => return,
         }
-    }
-    next
-}
-
-fn put_check(text: &mut [u8], at: usize, message: &[u8]) -> usize {
-    match macm::check(message) {
-        Verdict::Refused(refusal) => put_count(text, at, b"check ", refusal::number(refusal)),
-        Verdict::Accepted(_, _) => put_count(text, at, b"check ", 0),
     }
 }
 
-fn put_reply(text: &mut [u8], at: usize, reply: Reply, output: &[u8]) -> usize {
-    let answer = reply.answer;
-    match answer {
-        Answer::NeedsMore => text::put_all(text, at, b"needs more\n"),
-        Answer::Message { length, gap, .. } => {
-            put_given(text, at, gap, gap, text::front(output, length as usize))
+fn put_check(text: &mut Text, message: &[u8]) {
+    let number = match macm::check(message) {
+        Ok(_) => 0,
+        Err(refusal) => refusal::number(refusal),
+    };
+    text.put_count(b"check ", number, b'\n');
+}
+
+fn put_reply(text: &mut Text, reply: Reply, output: &[u8]) {
+    match reply.answer {
+        Ok(Answer::NeedsMore) => text.put_all(b"needs more\n"),
+        Ok(Answer::Message { length, gap, .. }) => {
+            put_given(text, gap, gap, text::front(output, length as usize))
         }
-        Answer::End { gap } => put_count(text, at, b"end gap ", gap),
-        Answer::Refused(refusal) => put_count(text, at, b"refused ", refusal::number(refusal)),
+        Ok(Answer::End { gap }) => text.put_count(b"end gap ", gap, b'\n'),
+        Err(refusal) => put_refused(text, refusal),
     }
 }
 
 // ---- the published messages
 
-// A file of data/: how many bytes it has, or 0 and the reason why it cannot be read.
-fn load(rt: &HostRuntime, name: &str, recording: &mut [u8]) -> usize {
+// What a file of data/ has, as far as the buffer has room; nothing where it cannot be opened, and the reason is said.
+fn load<'a>(rt: &HostRuntime, name: &str, buffer: &'a mut [u8]) -> &'a [u8] {
     match fs::open(rt, name) {
-        Ok(mut file) => read_full(&mut file, recording),
+        Ok(mut file) => read_full(&mut file, buffer),
         Err(error) => {
             report::say_failure(rt, name, &error);
-            0
+            &buffer[..0]
         }
     }
 }
 
-// Reads until the buffer is full, the input ends or a read fails: how many bytes there are.
-fn read_full<R: Read>(reader: &mut R, buffer: &mut [u8]) -> usize {
+// Reads until the buffer is full, the input ends or a read fails.
+fn read_full<'a, R: Read>(reader: &mut R, buffer: &'a mut [u8]) -> &'a [u8] {
     let mut count = 0;
-    for _ in 0..buffer.len() {
+    // A read brings as many bytes as it likes, so this is no `for`.
+    while count < buffer.len() {
         match reader.read(&mut buffer[count..]) {
             Ok(0) | Err(_) => break,
             Ok(got) => count += got,
         }
     }
-    count
+    &buffer[..count]
 }
 
-fn put_published(rt: &HostRuntime, text: &mut [u8], at: usize, name: &str) -> usize {
-    let mut recording = [0u8; 1024];
-    let length = load(rt, name, &mut recording);
-    let next = text::put_all(text, at, name.as_bytes());
-    let next = text::put(text, next, b'\n');
-    put_recording(text, next, text::front(&recording, length))
+fn put_name(text: &mut Text, name: &str) {
+    text.put_all(name.as_bytes());
+    text.put(b'\n');
+}
+
+fn put_published(rt: &HostRuntime, text: &mut Text, name: &str) {
+    let mut buffer = [0u8; 1024];
+    put_name(text, name);
+    put_recording(text, load(rt, name, &mut buffer));
 }
 
 // Where 264-04 has its two messages: the check of each, as it is printed.
-fn put_printed_checks(rt: &HostRuntime, text: &mut [u8], at: usize) -> usize {
+fn put_printed_checks(rt: &HostRuntime, text: &mut Text) {
     let mut recording = [0u8; 1024];
     load(rt, "264-04-table-4.bin", &mut recording);
-    let next = put_check(text, at, &recording[25..184]);
-    put_check(text, next, &recording[253..412])
+    put_check(text, &recording[25..184]);
+    put_check(text, &recording[253..412]);
 }
 
 // ---- the lines to be run
 
 // The ranges of E2: the least, that of 264-21's first observation, the longest.
-fn put_ranges(text: &mut [u8], at: usize) -> usize {
-    let next = put_count(text, at, b"range ", track::range_of(1));
-    let next = put_count(text, next, b"range ", track::range_of(2058626148));
-    put_count(text, next, b"range ", track::range_of(4294967295))
+fn put_ranges(text: &mut Text) {
+    for pseudorange in [1, 2058626148, 4294967295] {
+        text.put_count(b"range ", track::range_of(pseudorange), b'\n');
+    }
 }
 
 // S12 by the stream reader: fed whole, then finished twice.
-fn put_calls(text: &mut [u8], at: usize) -> usize {
+fn put_calls(text: &mut Text) {
     let mut window = [0u8; 6136];
     let mut output = [0u8; 6136];
     let recording = b"MACMAC2\x00\x00\x00\x0E\xA0\x0C\x90\x40\x7C\x10\x00\x1E";
     let reply = stream::feed(stream::fresh(), recording, &mut window, &mut output);
-    let next = put_reply(text, at, reply, &output);
-    let state = reply.state;
-    let reply = stream::finish(state, &mut window, &mut output);
-    let next = put_reply(text, next, reply, &output);
-    let state = reply.state;
-    let reply = stream::finish(state, &mut window, &mut output);
-    put_reply(text, next, reply, &output)
+    put_reply(text, reply, &output);
+    let reply = stream::finish(reply.state, &mut window, &mut output);
+    put_reply(text, reply, &output);
+    let reply = stream::finish(reply.state, &mut window, &mut output);
+    put_reply(text, reply, &output);
 }
 
 // ---- NovAtel's range record
 
-fn put_measured(text: &mut [u8], at: usize, r: Record) -> usize {
-    let next = text::put_all(text, at, b"status ");
-    let next = text::put_hex(text, next, r.status, 8);
-    let next = put_signed(text, next, b"\ndoppler ", r.doppler);
-    let next = put_count(text, next, b"range ", r.range);
-    put_signed(text, next, b"adr ", r.adr)
+fn put_fields(text: &mut Text, r: Record) {
+    text.put_all(b"status ");
+    text.put_hex(r.status, 8);
+    put_signed(text, b"\ndoppler ", r.doppler);
+    text.put_count(b"range ", r.range, b'\n');
+    put_signed(text, b"adr ", r.adr);
+    let range = r.range_deviation;
+    text.put_count(b"range_deviation ", range, b'\n');
+    text.put_count(b"range_mm ", novatel::deviation_of_range(range), b'\n');
+    let adr = r.adr_deviation;
+    text.put_count(b"adr_deviation ", adr, b'\n');
+    text.put_count(b"adr_512ths ", novatel::deviation_of_adr(adr), b'\n');
+    text.put_count(b"prn ", r.prn, b'\n');
+    text.put_count(b"lock ", r.lock, b'\n');
+    text.put_count(b"cn0 ", r.cn0, b'\n');
+    text.put_count(b"reserved ", r.reserved, b'\n');
 }
 
-fn put_deviations(text: &mut [u8], at: usize, range: u64, adr: u64) -> usize {
-    let next = put_count(text, at, b"range_deviation ", range);
-    let next = put_count(text, next, b"range_mm ", novatel::deviation_of_range(range));
-    let next = put_count(text, next, b"adr_deviation ", adr);
-    put_count(text, next, b"adr_512ths ", novatel::deviation_of_adr(adr))
-}
-
-fn put_fields(text: &mut [u8], at: usize, r: Record) -> usize {
-    let next = put_measured(text, at, r);
-    let next = put_deviations(text, next, r.range_deviation, r.adr_deviation);
-    let next = put_count(text, next, b"prn ", r.prn);
-    let next = put_count(text, next, b"lock ", r.lock);
-    let next = put_count(text, next, b"cn0 ", r.cn0);
-    put_count(text, next, b"reserved ", r.reserved)
-}
-
-fn put_correction(text: &mut [u8], at: usize, bytes: &[u8]) -> usize {
+fn put_correction(text: &mut Text, bytes: &[u8]) {
     match novatel::corrected_adr(bytes) {
-        Correction::Corrected { rolls, adr } => {
-            let next = put_signed(text, at, b"rolls ", rolls);
-            put_signed(text, next, b"corrected ", adr)
+        Ok(Corrected { rolls, adr }) => {
+            put_signed(text, b"rolls ", rolls);
+            put_signed(text, b"corrected ", adr);
         }
-        Correction::Refused(refusal) => put_count(text, at, b"refused ", refusal::number(refusal)),
+        Err(refusal) => put_refused(text, refusal),
     }
 }
 
-fn put_reading(text: &mut [u8], at: usize, bytes: &[u8]) -> usize {
+fn put_reading(text: &mut Text, bytes: &[u8]) {
     match novatel::read_record(bytes) {
-        Reading::Read(r) => put_fields(text, at, r),
-        Reading::Refused(refusal) => put_count(text, at, b"refused ", refusal::number(refusal)),
+        Ok(record) => put_fields(text, record),
+        Err(refusal) => put_refused(text, refusal),
     }
 }
 
 // The record that APN-031 publishes, and its corrected ADR.
-fn put_record(rt: &HostRuntime, text: &mut [u8], at: usize, name: &str) -> usize {
+fn put_record(rt: &HostRuntime, text: &mut Text, name: &str) {
     let mut bytes = [0u8; 24];
     load(rt, name, &mut bytes);
-    let next = text::put_all(text, at, name.as_bytes());
-    let next = text::put(text, next, b'\n');
-    let next = put_reading(text, next, &bytes);
-    put_correction(text, next, &bytes)
+    put_name(text, name);
+    put_reading(text, &bytes);
+    put_correction(text, &bytes);
 }
 
 // The corrected ADR of a record that has nothing but a range and an ADR.
-fn put_rolls(text: &mut [u8], at: usize, range: u64, adr: i64) -> usize {
+fn put_rolls(text: &mut Text, range: u64, adr: i64) {
     let mut bytes = [0u8; 24];
     let fields = Record {
         status: 0,
@@ -214,42 +205,45 @@ fn put_rolls(text: &mut [u8], at: usize, range: u64, adr: i64) -> usize {
         cn0: 20,
         reserved: 0,
     };
-    novatel::write_record(&mut bytes, fields);
-    put_correction(text, at, &bytes)
+    match novatel::write_record(&mut bytes, fields) {
+        Ok(_) => put_correction(text, &bytes),
+        Err(refusal) => put_refused(text, refusal),
+    }
 }
 
 // Rolls that doubles get wrong, and the longest range with the least and the largest ADR.
-fn put_far(text: &mut [u8], at: usize) -> usize {
-    let next = put_rolls(text, at, 28222569217, -1342202899);
-    let next = put_rolls(text, next, 22179300586, -104046687);
-    let next = put_rolls(text, next, 68719476735, -2147483648);
-    put_rolls(text, next, 68719476735, 2147483647)
+fn put_far(text: &mut Text) {
+    put_rolls(text, 28222569217, -1342202899);
+    put_rolls(text, 22179300586, -104046687);
+    put_rolls(text, 68719476735, -2147483648);
+    put_rolls(text, 68719476735, 2147483647);
 }
 
 // Halves, and one less in size.
-fn put_halves(text: &mut [u8], at: usize) -> usize {
-    let next = put_rolls(text, at, 0, 1073741824);
-    let next = put_rolls(text, next, 0, -1073741824);
-    let next = put_rolls(text, next, 0, 1073741823);
-    put_rolls(text, next, 0, -1073741823)
+fn put_halves(text: &mut Text) {
+    for adr in [1073741824, -1073741824, 1073741823, -1073741823] {
+        put_rolls(text, 0, adr);
+    }
 }
 
 fn main(rt: HostRuntime) -> io::Result<()> {
-    let mut text = [0u8; 16384];
-    let at = put_published(&rt, &mut text, 0, "264-21-figure-1.bin");
-    let at = put_published(&rt, &mut text, at, "264-04-table-4.bin");
-    let at = put_printed_checks(&rt, &mut text, at);
-    let at = put_published(&rt, &mut text, at, "264-04-table-4-by-the-rule.bin");
-    let at = put_ranges(&mut text, at);
-    let at = text::put_all(&mut text, at, b"A then B\n");
-    let both =
-        b"MAC2\x00\x00\x00\x0E\xA0\x0C\x90\x40\x7C\x10\x00\x1EMACM\x02\x00\x0E\xA0\x0C\x90\x40\x7C\x10\x00\x1C";
-    let at = put_recording(&mut text, at, both);
-    let at = text::put_all(&mut text, at, b"S12\n");
-    let at = put_calls(&mut text, at);
-    let at = put_record(&rt, &mut text, at, "apn-031-rangecmp.bin");
-    let at = text::put_all(&mut text, at, b"rolls and corrected\n");
-    let at = put_far(&mut text, at);
-    let at = put_halves(&mut text, at);
-    rt.stdout().write_all(text::front(&text, at))
+    let mut buffer = [0u8; 16384];
+    let mut text = Text::new(&mut buffer);
+    put_published(&rt, &mut text, "264-21-figure-1.bin");
+    put_published(&rt, &mut text, "264-04-table-4.bin");
+    put_printed_checks(&rt, &mut text);
+    put_published(&rt, &mut text, "264-04-table-4-by-the-rule.bin");
+    put_ranges(&mut text);
+    text.put_all(b"A then B\n");
+    put_recording(
+        &mut text,
+        b"MAC2\x00\x00\x00\x0E\xA0\x0C\x90\x40\x7C\x10\x00\x1EMACM\x02\x00\x0E\xA0\x0C\x90\x40\x7C\x10\x00\x1C",
+    );
+    text.put_all(b"S12\n");
+    put_calls(&mut text);
+    put_record(&rt, &mut text, "apn-031-rangecmp.bin");
+    text.put_all(b"rolls and corrected\n");
+    put_far(&mut text);
+    put_halves(&mut text);
+    rt.stdout().write_all(text.written())
 }

@@ -1,6 +1,6 @@
 -- What the C host's words stand for, and what each answer is in words: document 01's number for a refusal, 0 for none, and every other word 0 where a
 -- call refuses. Definitions only.
-use Rattle.std.specs.Prelude.{ℕ, suc, ◌-◌, ◌^◌, ◌%◌, cond, eqb, ℤ, pos, negsuc}
+use Rattle.std.specs.Prelude.{ℕ, suc, ◌-◌, ◌^◌, ◌%◌, cond, eqb, ℤ, pos, negsuc, Result, Ok, Err}
 use Rattle.std.specs.Float.{binary64}
 use Rattle.std.specs.Float.Ieee.{of_bits}
 use Rattle.octets.specs.Signed.{signed_of, half}
@@ -10,27 +10,16 @@ use Rattle.macm.specs.declared.Form.{Form}
 use Rattle.macm.specs.declared.Form.TheVariants.{New, Old}
 use Rattle.macm.specs.declared.Header.{Header}
 use Rattle.macm.specs.declared.Observation.{Observation}
-use Rattle.macm.specs.declared.Head.{Head}
-use Rattle.macm.specs.declared.Head.TheVariants.{Refused as NoHead, Read as Headed}
-use Rattle.macm.specs.declared.Observed.{Observed}
-use Rattle.macm.specs.declared.Observed.TheVariants.{Refused as NotObserved, Read as Seen}
-use Rattle.refusal.specs.declared.Written.{Written}
 use Rattle.refusal.specs.Written.{written_number, written_length}
 use Rattle.division.specs.declared.Next.{Next}
-use Rattle.division.specs.declared.Next.TheVariants.{Refused as NotFound, Message as Found, End as NoneLeft}
+use Rattle.division.specs.declared.Next.TheVariants.{Message as Found, End as NoneLeft}
 use Rattle.reason.specs.declared.Reason.{Reason}
-use Rattle.reason.specs.declared.Reason.TheVariants.{Refused as NoReason, Inside, Given, Sync, CutUnknown, CutShort, Checksum}
+use Rattle.reason.specs.declared.Reason.TheVariants.{Inside, Given, Sync, CutUnknown, CutShort, Checksum}
 use Rattle.stream.specs.declared.Answer.{Answer}
-use Rattle.stream.specs.declared.Answer.TheVariants.{Refused, NeedsMore, Message, End}
+use Rattle.stream.specs.declared.Answer.TheVariants.{NeedsMore, Message, End}
 use Rattle.track.specs.declared.Phase.{Phase}
 use Rattle.track.specs.declared.Phase.TheVariants.{Withheld, NotFinite, PolarityUnknown, NotCorrected, DueHalf, PolarityUndefined}
-use Rattle.history.specs.declared.Breaks.{Breaks}
-use Rattle.history.specs.declared.Breaks.TheVariants.{Refused as NotListed, Listed}
 use Rattle.novatel.specs.declared.Record.{Record}
-use Rattle.novatel.specs.declared.Reading as novatel
-use Rattle.novatel.specs.declared.Reading.TheVariants.{Refused as NoRecord, Read}
-use Rattle.novatel.specs.declared.Correction.{Correction}
-use Rattle.novatel.specs.declared.Correction.TheVariants.{Refused as NoCorrection, Corrected}
 use Rattle.words.specs.declared.HeaderWords.{HeaderWords}
 use Rattle.words.specs.declared.ObservationWords.{ObservationWords}
 use Rattle.words.specs.declared.HeadWords.{HeadWords}
@@ -43,6 +32,8 @@ use Rattle.words.specs.declared.PhaseWords.{PhaseWords}
 use Rattle.words.specs.declared.ListedWords.{ListedWords}
 use Rattle.words.specs.declared.RecordWords.{RecordWords}
 use Rattle.words.specs.declared.AdrWords.{AdrWords}
+use Rattle.novatel.specs.declared.Corrected.{Corrected}
+use Rattle.refusal.specs.declared.Refusal.{Refusal}
 
 -- ---- words in: of each the low bits that its field holds
 abbrev pub low_bits : ℤ → ℕ
@@ -110,44 +101,44 @@ no_header = record { form = 0; version = 0; signal = 0; tfom = 0; time = 0; offs
 abbrev pub no_observation : ObservationWords
 no_observation = record { sid = 0; condition = 0; cn0 = 0; phase = 0; pseudorange = 0; rate = pos 0; lock = 0 }
 
-abbrev pub head_words : Head → HeadWords
-head_words (NoHead r) = record { refusal = number_of r; count = 0; header = no_header }
-head_words (Headed h n) = record { refusal = 0; count = n; header = header_words h }
+abbrev pub head_words : Result (Header × ℕ) Refusal → HeadWords
+head_words (Err r) = record { refusal = number_of r; count = 0; header = no_header }
+head_words (Ok (h, n)) = record { refusal = 0; count = n; header = header_words h }
 
-abbrev pub observed_words : Observed → ObservedWords
-observed_words (NotObserved r) = record { refusal = number_of r; observation = no_observation }
-observed_words (Seen o) = record { refusal = 0; observation = observation_words o }
+abbrev pub observed_words : Result Observation Refusal → ObservedWords
+observed_words (Err r) = record { refusal = number_of r; observation = no_observation }
+observed_words (Ok o) = record { refusal = 0; observation = observation_words o }
 
-abbrev pub written_words : Written → WrittenWords
+abbrev pub written_words : Result ℕ Refusal → WrittenWords
 written_words w = record { refusal = written_number w; length = written_length w }
 
 -- how many breaks are listed
-abbrev pub listed_words : Breaks → ListedWords
-listed_words (NotListed r) = record { refusal = number_of r; count = 0 }
-listed_words (Listed n) = record { refusal = 0; count = n }
+abbrev pub listed_words : Result ℕ Refusal → ListedWords
+listed_words (Err r) = record { refusal = number_of r; count = 0 }
+listed_words (Ok n) = record { refusal = 0; count = n }
 
 -- kind 1 is a message, 2 the end
-abbrev pub found_words : Next → FoundWords
-found_words (NotFound r) = record { refusal = number_of r; kind = 0; position = 0; length = 0; gap = 0 }
-found_words (Found p n g) = record { refusal = 0; kind = 1; position = p; length = n; gap = g }
-found_words (NoneLeft g) = record { refusal = 0; kind = 2; position = 0; length = 0; gap = g }
+abbrev pub found_words : Result Next Refusal → FoundWords
+found_words (Err r) = record { refusal = number_of r; kind = 0; position = 0; length = 0; gap = 0 }
+found_words (Ok (Found p n g)) = record { refusal = 0; kind = 1; position = p; length = n; gap = g }
+found_words (Ok (NoneLeft g)) = record { refusal = 0; kind = 2; position = 0; length = 0; gap = g }
 
 -- kind 1 is inside, 2 given, 3 a wrong sync, 4 cut short before the count byte, 5 cut short, 6 a wrong checksum
-abbrev pub reason_words : Reason → ReasonWords
-reason_words (NoReason r) = record { refusal = number_of r; kind = 0; value = 0 }
-reason_words (Inside q) = record { refusal = 0; kind = 1; value = q }
-reason_words (Given n) = record { refusal = 0; kind = 2; value = n }
-reason_words (Sync k) = record { refusal = 0; kind = 3; value = k }
-reason_words CutUnknown = record { refusal = 0; kind = 4; value = 0 }
-reason_words (CutShort n) = record { refusal = 0; kind = 5; value = n }
-reason_words (Checksum residue) = record { refusal = 0; kind = 6; value = residue }
+abbrev pub reason_words : Result Reason Refusal → ReasonWords
+reason_words (Err r) = record { refusal = number_of r; kind = 0; value = 0 }
+reason_words (Ok (Inside q)) = record { refusal = 0; kind = 1; value = q }
+reason_words (Ok (Given n)) = record { refusal = 0; kind = 2; value = n }
+reason_words (Ok (Sync k)) = record { refusal = 0; kind = 3; value = k }
+reason_words (Ok CutUnknown) = record { refusal = 0; kind = 4; value = 0 }
+reason_words (Ok (CutShort n)) = record { refusal = 0; kind = 5; value = n }
+reason_words (Ok (Checksum residue)) = record { refusal = 0; kind = 6; value = residue }
 
 -- kind 0 needs more, and then all of the bytes offered are taken; 1 is a message, 2 the end
-abbrev pub answer_words : Answer → ℕ → AnswerWords
-answer_words (Refused r) offered = record { refusal = number_of r; kind = 0; length = 0; gap = 0; taken = 0 }
-answer_words NeedsMore offered = record { refusal = 0; kind = 0; length = 0; gap = 0; taken = offered }
-answer_words (Message n g t) offered = record { refusal = 0; kind = 1; length = n; gap = g; taken = t }
-answer_words (End g) offered = record { refusal = 0; kind = 2; length = 0; gap = g; taken = 0 }
+abbrev pub answer_words : Result Answer Refusal → ℕ → AnswerWords
+answer_words (Err r) offered = record { refusal = number_of r; kind = 0; length = 0; gap = 0; taken = 0 }
+answer_words (Ok NeedsMore) offered = record { refusal = 0; kind = 0; length = 0; gap = 0; taken = offered }
+answer_words (Ok (Message n g t)) offered = record { refusal = 0; kind = 1; length = n; gap = g; taken = t }
+answer_words (Ok (End g)) offered = record { refusal = 0; kind = 2; length = 0; gap = g; taken = 0 }
 
 -- kind 0 is withheld, 1 not finite; the others have cycles and the code of their polarity: 2 is unknown, 3 not corrected since lock, 4 due half a cycle,
 -- 5 undefined
@@ -178,10 +169,10 @@ record_out k r =
 abbrev pub no_record : Record
 no_record = record { status = 0; doppler = pos 0; range = 0; adr = pos 0; range_deviation = 0; adr_deviation = 0; prn = 0; lock = 0; cn0 = 0; reserved = 0 }
 
-abbrev pub record_words : novatel.Reading → RecordWords
-record_words (NoRecord r) = record_out (number_of r) no_record
-record_words (Read r) = record_out 0 r
+abbrev pub record_words : Result Record Refusal → RecordWords
+record_words (Err r) = record_out (number_of r) no_record
+record_words (Ok r) = record_out 0 r
 
-abbrev pub adr_words : Correction → AdrWords
-adr_words (NoCorrection r) = record { refusal = number_of r; rolls = pos 0; adr = pos 0 }
-adr_words (Corrected rolls adr) = record { refusal = 0; rolls = rolls; adr = adr }
+abbrev pub adr_words : Result Corrected Refusal → AdrWords
+adr_words (Err r) = record { refusal = number_of r; rolls = pos 0; adr = pos 0 }
+adr_words (Ok c) = record { refusal = 0; rolls = c.rolls; adr = c.adr }

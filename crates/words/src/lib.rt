@@ -3,19 +3,18 @@
 #![tactic(auto)]
 
 ghost use Rattle.std.specs.Prelude.{◌≡◌};
-ghost use Rattle.words.specs.Words.{low_bits, form_in, header_in, observation_in, header_words, observation_words, head_words, observed_words, written_words, found_words, reason_words, answer_words, phase_words, listed_words, record_in, record_out, record_words, adr_words};
+ghost use Rattle.words.specs.Words.{low_bits, form_in, header_in, observation_in, header_words, observation_words, head_words, observed_words, written_words, found_words, reason_words, answer_words, phase_words, listed_words, record_in, record_words, adr_words};
 
 use division::Next;
-use history::Breaks;
-use macm::{Form, Head, Header, Observation, Observed};
-use novatel::{Correction, Record};
+use macm::{Form, Header, Observation};
+use novatel::{Corrected, Record};
 use reason::Reason;
-use refusal::Written;
+use refusal::Refusal;
 use stream::Answer;
 use track::Phase;
 
 #[repr(C)]
-#[derive(Clone, Copy)]
+#[derive(Clone, Copy, Debug, Default, PartialEq, Eq)]
 pub struct HeaderWords {
     pub form: u64,
     pub version: u64,
@@ -26,7 +25,7 @@ pub struct HeaderWords {
 }
 
 #[repr(C)]
-#[derive(Clone, Copy)]
+#[derive(Clone, Copy, Debug, Default, PartialEq, Eq)]
 pub struct ObservationWords {
     pub sid: u64,
     pub condition: u64,
@@ -38,7 +37,7 @@ pub struct ObservationWords {
 }
 
 #[repr(C)]
-#[derive(Clone, Copy)]
+#[derive(Clone, Copy, Debug, Default, PartialEq, Eq)]
 pub struct HeadWords {
     pub refusal: u64,
     pub count: u64,
@@ -46,21 +45,21 @@ pub struct HeadWords {
 }
 
 #[repr(C)]
-#[derive(Clone, Copy)]
+#[derive(Clone, Copy, Debug, Default, PartialEq, Eq)]
 pub struct ObservedWords {
     pub refusal: u64,
     pub observation: ObservationWords,
 }
 
 #[repr(C)]
-#[derive(Clone, Copy)]
+#[derive(Clone, Copy, Debug, Default, PartialEq, Eq)]
 pub struct WrittenWords {
     pub refusal: u64,
     pub length: u64,
 }
 
 #[repr(C)]
-#[derive(Clone, Copy)]
+#[derive(Clone, Copy, Debug, Default, PartialEq, Eq)]
 pub struct FoundWords {
     pub refusal: u64,
     pub kind: u64,
@@ -70,7 +69,7 @@ pub struct FoundWords {
 }
 
 #[repr(C)]
-#[derive(Clone, Copy)]
+#[derive(Clone, Copy, Debug, Default, PartialEq, Eq)]
 pub struct ReasonWords {
     pub refusal: u64,
     pub kind: u64,
@@ -78,7 +77,7 @@ pub struct ReasonWords {
 }
 
 #[repr(C)]
-#[derive(Clone, Copy)]
+#[derive(Clone, Copy, Debug, Default, PartialEq, Eq)]
 pub struct AnswerWords {
     pub refusal: u64,
     pub kind: u64,
@@ -88,7 +87,7 @@ pub struct AnswerWords {
 }
 
 #[repr(C)]
-#[derive(Clone, Copy)]
+#[derive(Clone, Copy, Debug, Default, PartialEq)]
 pub struct PhaseWords {
     pub kind: u64,
     pub code: u64,
@@ -96,14 +95,14 @@ pub struct PhaseWords {
 }
 
 #[repr(C)]
-#[derive(Clone, Copy)]
+#[derive(Clone, Copy, Debug, Default, PartialEq, Eq)]
 pub struct ListedWords {
     pub refusal: u64,
     pub count: u64,
 }
 
 #[repr(C)]
-#[derive(Clone, Copy)]
+#[derive(Clone, Copy, Debug, Default, PartialEq, Eq)]
 pub struct RecordWords {
     pub refusal: u64,
     pub status: u64,
@@ -119,346 +118,340 @@ pub struct RecordWords {
 }
 
 #[repr(C)]
-#[derive(Clone, Copy)]
+#[derive(Clone, Copy, Debug, Default, PartialEq, Eq)]
 pub struct AdrWords {
     pub refusal: u64,
     pub rolls: i64,
     pub adr: i64,
 }
 
-// ---- words in
+// ---- words in: of each the low bits that its field holds
 
 // The low 32 bits of a signed word.
+#[tactic(auto, using(crate::proofs::Low::low_cast))]
 fn low_bits(rate: i64) -> u32
     ensures { result ≡ low_bits rate }
 {
-    if rate >= 0 {
-        (rate as u64 % 4294967296) as u32
-    } else {
-        (4294967295 - (-1 - rate) as u64 % 4294967296) as u32
-    }
+    (rate.cast_unsigned() % 4294967296) as u32
 }
 
 // 1 is the old form, anything else the new one.
-pub fn form_in(form: u64, version: u64, signal: u64, tfom: u64) -> Form
-    ensures { result ≡ form_in form version signal tfom }
-{
-    let version = (version % 256) as u8;
-    let signal = (signal % 256) as u8;
-    let tfom = (tfom % 256) as u8;
-    if form == 1 {
-        Form::Old { version }
-    } else {
-        Form::New { signal, tfom }
+impl From<HeaderWords> for Form {
+    ghost from_gives = { λ words form. form ≡ form_in words.form words.version words.signal words.tfom };
+
+    fn from(words: HeaderWords) -> Form {
+        if words.form == 1 {
+            Form::Old {
+                version: (words.version % 256) as u8,
+            }
+        } else {
+            Form::New {
+                signal: (words.signal % 256) as u8,
+                tfom: (words.tfom % 256) as u8,
+            }
+        }
     }
 }
 
-pub fn header_in(words: HeaderWords) -> Header
-    ensures { result ≡ header_in words }
-{
-    let form = form_in(words.form, words.version, words.signal, words.tfom);
-    let time = (words.time % 4294967296) as u32;
-    let offset = (words.offset % 4294967296) as u32;
-    Header { form, time, offset }
+impl From<HeaderWords> for Header {
+    ghost from_gives = { λ words header. header ≡ header_in words };
+
+    fn from(words: HeaderWords) -> Header {
+        Header {
+            form: words.into(),
+            time: (words.time % 4294967296) as u32,
+            offset: (words.offset % 4294967296) as u32,
+        }
+    }
 }
 
-pub fn observation_in(words: ObservationWords) -> Observation
-    ensures { result ≡ observation_in words }
-{
-    Observation {
-        sid: (words.sid % 256) as u8,
-        condition: (words.condition % 65536) as u16,
-        cn0: (words.cn0 % 256) as u8,
-        phase: words.phase,
-        pseudorange: (words.pseudorange % 4294967296) as u32,
-        rate: octets::signed_of(low_bits(words.rate)),
-        lock: units::LockCount::from_count((words.lock % 4294967296) as u32),
+impl From<ObservationWords> for Observation {
+    ghost from_gives = { λ words observation. observation ≡ observation_in words };
+
+    #[tactic(auto, using(octets::proofs::Signed::signed_cast))]
+    fn from(words: ObservationWords) -> Observation {
+        Observation {
+            sid: (words.sid % 256) as u8,
+            condition: (words.condition % 65536) as u16,
+            cn0: (words.cn0 % 256) as u8,
+            phase: words.phase,
+            pseudorange: (words.pseudorange % 4294967296) as u32,
+            rate: low_bits(words.rate).cast_signed(),
+            lock: units::LockCount::from_count((words.lock % 4294967296) as u32),
+        }
     }
 }
 
 // All of them as they are, but for the refusal: what a field cannot hold is refused in writing.
-pub fn record_in(words: RecordWords) -> Record
-    ensures { result ≡ record_in words }
-{
-    Record {
-        status: words.status,
-        doppler: words.doppler,
-        range: words.range,
-        adr: words.adr,
-        range_deviation: words.range_deviation,
-        adr_deviation: words.adr_deviation,
-        prn: words.prn,
-        lock: words.lock,
-        cn0: words.cn0,
-        reserved: words.reserved,
+impl From<RecordWords> for Record {
+    ghost from_gives = { λ words fields. fields ≡ record_in words };
+
+    fn from(words: RecordWords) -> Record {
+        Record {
+            status: words.status,
+            doppler: words.doppler,
+            range: words.range,
+            adr: words.adr,
+            range_deviation: words.range_deviation,
+            adr_deviation: words.adr_deviation,
+            prn: words.prn,
+            lock: words.lock,
+            cn0: words.cn0,
+            reserved: words.reserved,
+        }
     }
 }
 
-// ---- words out
+// ---- words out: where a call refuses, every word but the refusal is 0
 
-fn header_of(form: u64, version: u8, signal: u8, tfom: u8, time: u32, offset: u32) -> HeaderWords
-    ensures { result ≡ record { form = form; version = version; signal = signal; tfom = tfom; time = time; offset = offset } }
-{
-    HeaderWords {
-        form,
-        version: version as u64,
-        signal: signal as u64,
-        tfom: tfom as u64,
-        time: time as u64,
-        offset: offset as u64,
-    }
-}
+impl From<Header> for HeaderWords {
+    ghost from_gives = { λ header words. words ≡ header_words header };
 
-fn header_words(header: Header) -> HeaderWords
-    ensures { result ≡ header_words header }
-{
-    let form = header.form;
-    match form {
-        Form::New { signal, tfom } => header_of(2, 0, signal, tfom, header.time, header.offset),
-        Form::Old { version } => header_of(1, version, 0, 0, header.time, header.offset),
-    }
-}
-
-fn observation_words(o: Observation) -> ObservationWords
-    ensures { result ≡ observation_words o }
-{
-    let lock = o.lock;
-    ObservationWords {
-        sid: o.sid as u64,
-        condition: o.condition as u64,
-        cn0: o.cn0 as u64,
-        phase: o.phase,
-        pseudorange: o.pseudorange as u64,
-        rate: o.rate as i64,
-        lock: lock.count() as u64,
-    }
-}
-
-pub fn head_words(head: Head) -> HeadWords
-    ensures { result ≡ head_words head }
-{
-    match head {
-        Head::Refused(refusal) => HeadWords {
-            refusal: refusal::number(refusal),
-            count: 0,
-            header: header_of(0, 0, 0, 0, 0, 0),
-        },
-        Head::Read(header, count) => HeadWords {
-            refusal: 0,
-            count: count as u64,
-            header: header_words(header),
-        },
-    }
-}
-
-pub fn observed_words(observed: Observed) -> ObservedWords
-    ensures { result ≡ observed_words observed }
-{
-    match observed {
-        Observed::Refused(refusal) => ObservedWords {
-            refusal: refusal::number(refusal),
-            observation: ObservationWords {
-                sid: 0,
-                condition: 0,
-                cn0: 0,
-                phase: 0,
-                pseudorange: 0,
-                rate: 0,
-                lock: 0,
+    fn from(header: Header) -> HeaderWords {
+        let words = HeaderWords {
+            time: header.time as u64,
+            offset: header.offset as u64,
+            ..HeaderWords::default()
+        };
+        match header.form {
+            Form::New { signal, tfom } => HeaderWords {
+                form: 2,
+                signal: signal as u64,
+                tfom: tfom as u64,
+                ..words
             },
-        },
-        Observed::Read(observation) => ObservedWords {
-            refusal: 0,
-            observation: observation_words(observation),
-        },
+            Form::Old { version } => HeaderWords {
+                form: 1,
+                version: version as u64,
+                ..words
+            },
+        }
     }
 }
 
-pub fn written_words(written: Written) -> WrittenWords
-    ensures { result ≡ written_words written }
-{
-    match written {
-        Written::Refused(refusal) => WrittenWords {
-            refusal: refusal::number(refusal),
-            length: 0,
-        },
-        Written::Length(length) => WrittenWords {
-            refusal: 0,
-            length: length as u64,
-        },
+impl From<Observation> for ObservationWords {
+    ghost from_gives = { λ observation words. words ≡ observation_words observation };
+
+    fn from(observation: Observation) -> ObservationWords {
+        ObservationWords {
+            sid: observation.sid as u64,
+            condition: observation.condition as u64,
+            cn0: observation.cn0 as u64,
+            phase: observation.phase,
+            pseudorange: observation.pseudorange as u64,
+            rate: observation.rate as i64,
+            lock: observation.lock.count() as u64,
+        }
     }
 }
 
-pub fn listed_words(breaks: Breaks) -> ListedWords
-    ensures { result ≡ listed_words breaks }
-{
-    match breaks {
-        Breaks::Refused(refusal) => ListedWords {
-            refusal: refusal::number(refusal),
-            count: 0,
-        },
-        Breaks::Listed(count) => ListedWords {
-            refusal: 0,
-            count: count as u64,
-        },
+impl From<Result<(Header, u8), Refusal>> for HeadWords {
+    ghost from_gives = { λ head words. words ≡ head_words head };
+
+    fn from(head: Result<(Header, u8), Refusal>) -> HeadWords {
+        match head {
+            Err(refusal) => HeadWords {
+                refusal: refusal::number(refusal),
+                ..HeadWords::default()
+            },
+            Ok((header, count)) => HeadWords {
+                refusal: 0,
+                count: count as u64,
+                header: header.into(),
+            },
+        }
     }
 }
 
-fn found_of(refusal: u64, kind: u64, position: usize, length: usize, gap: usize) -> FoundWords
-    ensures { result ≡ record { refusal = refusal; kind = kind; position = position; length = length; gap = gap } }
-{
-    FoundWords {
-        refusal,
-        kind,
-        position: position as u64,
-        length: length as u64,
-        gap: gap as u64,
+impl From<Result<Observation, Refusal>> for ObservedWords {
+    ghost from_gives = { λ observed words. words ≡ observed_words observed };
+
+    fn from(observed: Result<Observation, Refusal>) -> ObservedWords {
+        match observed {
+            Err(refusal) => ObservedWords {
+                refusal: refusal::number(refusal),
+                ..ObservedWords::default()
+            },
+            Ok(observation) => ObservedWords {
+                refusal: 0,
+                observation: observation.into(),
+            },
+        }
     }
 }
 
-pub fn found_words(next: Next) -> FoundWords
-    ensures { result ≡ found_words next }
-{
-    match next {
-        Next::Refused(refusal) => found_of(refusal::number(refusal), 0, 0, 0, 0),
-        Next::Message {
-            position,
-            length,
-            gap,
-        } => found_of(0, 1, position, length, gap),
-        Next::End { gap } => found_of(0, 2, 0, 0, gap),
+impl From<Result<usize, Refusal>> for WrittenWords {
+    ghost from_gives = { λ written words. words ≡ written_words written };
+
+    fn from(written: Result<usize, Refusal>) -> WrittenWords {
+        match written {
+            Err(refusal) => WrittenWords {
+                refusal: refusal::number(refusal),
+                ..WrittenWords::default()
+            },
+            Ok(length) => WrittenWords {
+                refusal: 0,
+                length: length as u64,
+            },
+        }
     }
 }
 
-fn reason_of(refusal: u64, kind: u64, value: u64) -> ReasonWords
-    ensures { result ≡ record { refusal = refusal; kind = kind; value = value } }
-{
-    ReasonWords {
-        refusal,
-        kind,
-        value,
+// Apart from WrittenWords, since the header calls the number by another name.
+impl From<Result<usize, Refusal>> for ListedWords {
+    ghost from_gives = { λ listed words. words ≡ listed_words listed };
+
+    fn from(listed: Result<usize, Refusal>) -> ListedWords {
+        match listed {
+            Err(refusal) => ListedWords {
+                refusal: refusal::number(refusal),
+                ..ListedWords::default()
+            },
+            Ok(count) => ListedWords {
+                refusal: 0,
+                count: count as u64,
+            },
+        }
     }
 }
 
-pub fn reason_words(reason: Reason) -> ReasonWords
-    ensures { result ≡ reason_words reason }
-{
-    match reason {
-        Reason::Refused(refusal) => reason_of(refusal::number(refusal), 0, 0),
-        Reason::Inside(start) => reason_of(0, 1, start as u64),
-        Reason::Given(length) => reason_of(0, 2, length as u64),
-        Reason::Sync(byte) => reason_of(0, 3, byte as u64),
-        Reason::CutUnknown => reason_of(0, 4, 0),
-        Reason::CutShort(missing) => reason_of(0, 5, missing as u64),
-        Reason::Checksum(residue) => reason_of(0, 6, residue as u64),
+impl From<Result<Next, Refusal>> for FoundWords {
+    ghost from_gives = { λ next words. words ≡ found_words next };
+
+    fn from(next: Result<Next, Refusal>) -> FoundWords {
+        match next {
+            Err(refusal) => FoundWords {
+                refusal: refusal::number(refusal),
+                ..FoundWords::default()
+            },
+            Ok(
+                Next::Message {
+                    position,
+                    length,
+                    gap,
+                },
+            ) => FoundWords {
+                refusal: 0,
+                kind: 1,
+                position: position as u64,
+                length: length as u64,
+                gap: gap as u64,
+            },
+            Ok(Next::End { gap }) => FoundWords {
+                kind: 2,
+                gap: gap as u64,
+                ..FoundWords::default()
+            },
+        }
     }
 }
 
-fn answer_of(refusal: u64, kind: u64, length: u64, gap: u64, taken: u64) -> AnswerWords
-    ensures { result ≡ record { refusal = refusal; kind = kind; length = length; gap = gap; taken = taken } }
-{
-    AnswerWords {
-        refusal,
-        kind,
-        length,
-        gap,
-        taken,
+impl From<Result<Reason, Refusal>> for ReasonWords {
+    ghost from_gives = { λ reason words. words ≡ reason_words reason };
+
+    fn from(reason: Result<Reason, Refusal>) -> ReasonWords {
+        let (refusal, kind, value) = match reason {
+            Err(refusal) => (refusal::number(refusal), 0, 0),
+            Ok(Reason::Inside(start)) => (0, 1, start as u64),
+            Ok(Reason::Given(length)) => (0, 2, length as u64),
+            Ok(Reason::Sync(byte)) => (0, 3, byte as u64),
+            Ok(Reason::CutUnknown) => (0, 4, 0),
+            Ok(Reason::CutShort(missing)) => (0, 5, missing as u64),
+            Ok(Reason::Checksum(residue)) => (0, 6, residue as u64),
+        };
+        ReasonWords {
+            refusal,
+            kind,
+            value,
+        }
     }
 }
 
-// All of the bytes offered are taken where more is needed.
+// All of the bytes offered are taken where more is needed. No From: of a pair it would not say that the number is what was offered.
 pub fn answer_words(reply: stream::Reply, offered: u64) -> AnswerWords
     ensures { result ≡ answer_words reply.answer offered }
 {
-    let answer = reply.answer;
-    match answer {
-        Answer::Refused(refusal) => answer_of(refusal::number(refusal), 0, 0, 0, 0),
-        Answer::NeedsMore => answer_of(0, 0, 0, 0, offered),
-        Answer::Message { length, gap, taken } => answer_of(0, 1, length, gap, taken),
-        Answer::End { gap } => answer_of(0, 2, 0, gap, 0),
-    }
-}
-
-fn cycles_of(kind: u64, code: u8, cycles: f64) -> PhaseWords
-    ensures { result ≡ record { kind = kind; code = code; cycles = cycles } }
-{
-    PhaseWords {
-        kind,
-        code: code as u64,
-        cycles,
-    }
-}
-
-pub fn phase_words(phase: Phase) -> PhaseWords
-    ensures { result ≡ phase_words phase }
-{
-    match phase {
-        Phase::Withheld => cycles_of(0, 0, 0.0),
-        Phase::NotFinite => cycles_of(1, 0, 0.0),
-        Phase::PolarityUnknown(cycles) => cycles_of(2, 0, cycles),
-        Phase::NotCorrected(cycles) => cycles_of(3, 5, cycles),
-        Phase::DueHalf(cycles) => cycles_of(4, 7, cycles),
-        Phase::PolarityUndefined(code, cycles) => cycles_of(5, code, cycles),
-    }
-}
-
-fn record_of(refusal: u64, r: Record) -> RecordWords
-    ensures { result ≡ record_out refusal r }
-{
-    RecordWords {
-        refusal,
-        status: r.status,
-        doppler: r.doppler,
-        range: r.range,
-        adr: r.adr,
-        range_deviation: r.range_deviation,
-        adr_deviation: r.adr_deviation,
-        prn: r.prn,
-        lock: r.lock,
-        cn0: r.cn0,
-        reserved: r.reserved,
-    }
-}
-
-pub fn record_words(reading: novatel::Reading) -> RecordWords
-    ensures { result ≡ record_words reading }
-{
-    match reading {
-        novatel::Reading::Refused(refusal) => record_of(
-            refusal::number(refusal),
-            Record {
-                status: 0,
-                doppler: 0,
-                range: 0,
-                adr: 0,
-                range_deviation: 0,
-                adr_deviation: 0,
-                prn: 0,
-                lock: 0,
-                cn0: 0,
-                reserved: 0,
-            },
-        ),
-        novatel::Reading::Read(r) => record_of(0, r),
-    }
-}
-
-pub fn adr_words(correction: Correction) -> AdrWords
-    ensures { result ≡ adr_words correction }
-{
-    match correction {
-        Correction::Refused(refusal) => {
-            let refusal = refusal::number(refusal);
-            AdrWords {
-                refusal,
-                rolls: 0,
-                adr: 0,
-            }
-        }
-        Correction::Corrected { rolls, adr } => AdrWords {
-            refusal: 0,
-            rolls,
-            adr,
+    match reply.answer {
+        Err(refusal) => AnswerWords {
+            refusal: refusal::number(refusal),
+            ..AnswerWords::default()
         },
+        Ok(Answer::NeedsMore) => AnswerWords {
+            kind: 0,
+            taken: offered,
+            ..AnswerWords::default()
+        },
+        Ok(Answer::Message { length, gap, taken }) => AnswerWords {
+            refusal: 0,
+            kind: 1,
+            length,
+            gap,
+            taken,
+        },
+        Ok(Answer::End { gap }) => AnswerWords {
+            kind: 2,
+            gap,
+            ..AnswerWords::default()
+        },
+    }
+}
+
+impl From<Phase> for PhaseWords {
+    ghost from_gives = { λ phase words. words ≡ phase_words phase };
+
+    fn from(phase: Phase) -> PhaseWords {
+        let (kind, code, cycles) = match phase {
+            Phase::Withheld => (0, 0, 0.0),
+            Phase::NotFinite => (1, 0, 0.0),
+            Phase::PolarityUnknown(cycles) => (2, 0, cycles),
+            Phase::NotCorrected(cycles) => (3, 5, cycles),
+            Phase::DueHalf(cycles) => (4, 7, cycles),
+            Phase::PolarityUndefined(code, cycles) => (5, code as u64, cycles),
+        };
+        PhaseWords { kind, code, cycles }
+    }
+}
+
+impl From<Result<Record, Refusal>> for RecordWords {
+    ghost from_gives = { λ reading words. words ≡ record_words reading };
+
+    fn from(reading: Result<Record, Refusal>) -> RecordWords {
+        match reading {
+            Err(refusal) => RecordWords {
+                refusal: refusal::number(refusal),
+                ..RecordWords::default()
+            },
+            Ok(record) => RecordWords {
+                refusal: 0,
+                status: record.status,
+                doppler: record.doppler,
+                range: record.range,
+                adr: record.adr,
+                range_deviation: record.range_deviation,
+                adr_deviation: record.adr_deviation,
+                prn: record.prn,
+                lock: record.lock,
+                cn0: record.cn0,
+                reserved: record.reserved,
+            },
+        }
+    }
+}
+
+impl From<Result<Corrected, Refusal>> for AdrWords {
+    ghost from_gives = { λ correction words. words ≡ adr_words correction };
+
+    fn from(correction: Result<Corrected, Refusal>) -> AdrWords {
+        match correction {
+            Err(refusal) => AdrWords {
+                refusal: refusal::number(refusal),
+                ..AdrWords::default()
+            },
+            Ok(Corrected { rolls, adr }) => AdrWords {
+                refusal: 0,
+                rolls,
+                adr,
+            },
+        }
     }
 }

@@ -1,11 +1,11 @@
 -- `account::put_report` meets its contract. Assumes nothing.
+use mathlib.Core.Path.{ap, ◌∙◌}
 use native.Mathlib.Omega.{arith}
 use lib.ListN.{length}
 use borrow.Author.Tests.{le-ltb}
-use Rattle.text.proofs.PutLaws.{puts_join}
+use Rattle.text.specs.Put.{appended}
+use Rattle.text.proofs.PutLaws.{appended_join}
 use Rattle.account.proofs.put_report.Goals as goal
 
 pub returns : goal.returns
-returns c =
-    let s = c.args.recording.now in
-    rw (le-ltb 61440 (length s) (omega arith)) (puts_join c.put_all-next.ensures c.put_account.ensures)
+returns c = rw (le-ltb 61440 (length c.args.recording.now) (omega arith)) (c.put_account.ensures ∙ ap (appended _) c.put_all-2.ensures ∙ appended_join _ _ c.args.text.now)

@@ -4,5 +4,5 @@ use lib.ListN.{length}
 use Rattle.argument.proofs.Digits.{Read}
 use Rattle.argument.proofs.small_number.Given as goal
 
-abbrev pub invariant-loop-index : goal.invariant-loop-index
-invariant-loop-index l = (l.index ≤ length l.word) × (l.value ≤ 255) × (0 < length l.word) × Read l.word l.value l.index
+abbrev pub invariant-loop-digit : goal.invariant-loop-digit
+invariant-loop-digit l = (l.value ≤ 255) × (0 < length l.word) × Read l.word l.value l.digit-index

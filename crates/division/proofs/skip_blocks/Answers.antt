@@ -4,7 +4,4 @@ use Rattle.division.proofs.Skipping.{skipped_more}
 use Rattle.division.proofs.skip_blocks.Goals as goal
 
 pub loop-i-preserved : goal.loop-i-preserved
-loop-i-preserved c =
-    let a = c.args in
-    let l = c.loop-i in
-    skipped_more a.bytes.now a.from l.i 64 l.invariant (omega arith) (c.count_starts.ensures (omega arith))
+loop-i-preserved c = skipped_more c.args.bytes.now c.args.from c.loop-i.i 64 c.loop-i.invariant (omega arith) (c.has_start.ensures c.if-not-has_start.true)

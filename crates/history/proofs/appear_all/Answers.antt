@@ -1,28 +1,32 @@
--- `history::appear_all` meets its contract: before each turn the observations up to its index are taken. Assumes nothing.
-use Prim.Native.Nat.{◌+◌, ◌*◌}
-use mathlib.Core.Path.{refl, ap, ◌∙◌}
+-- `history::appear_all` meets its contract: before each turn the observations that came are taken. Assumes nothing.
+use mathlib.Core.Path.{refl, ap, ap₂, ◌∙◌}
+use mathlib.Core.List.{[], ◌∷◌}
 use native.Mathlib.Omega.{arith}
-use Rattle.octets.specs.Parts.{part}
-use Rattle.macm.specs.Observation.{observation_of}
-use Rattle.history.specs.Appearances.{appears, appearances_up_to}
-use Rattle.history.proofs.Takes.{takes_none, takes_then, takes_few, observed_next}
+use lib.ListN.{length-append}
+use Rattle.macm.proofs.Iterates.{each, all_came}
+use Rattle.history.specs.Appearances.{appears}
+use Rattle.history.proofs.Takes.{takes_none, takes_one_more, takes_few, appearances_all}
 use Rattle.history.proofs.appear_all.Goals as goal
 
-pub loop-index-init : goal.loop-index-init
-unfolding appearances_up_to
-loop-index-init c = (omega arith, omega arith, refl, refl, takes_none _ _ _)
+pub loop-observation-init : goal.loop-observation-init
+loop-observation-init c = (omega arith, refl, refl, takes_none _ _ _)
 
-pub loop-index-preserved : goal.loop-index-preserved
-loop-index-preserved c =
-    let a = c.args in
-    let l = c.loop-index in
-    let taken = c.appear-listed in
-    let here = c.appearance_at-appearance.ensures ∙ ap (λ k. appears a.header.time (observation_of (part (k + 9 + 24 * l.index) 24 a.message.now))) c.count_at.ensures.0 in
-    let next = observed_next a.message.now a.header.form a.header.time a.count l.index _ (omega arith) (omega arith) here in
-    let few = takes_few _ taken.ensures in (
-      omega arith,
-      omega (arith, few, l.invariant.1),
-      taken.auto.history ∙ l.invariant.2,
-      taken.auto.list ∙ l.invariant.3,
-      rw next at (takes_then l.invariant.4 taken.ensures (omega arith)),
+pub loop-observation-preserved : goal.loop-observation-preserved
+loop-observation-preserved c =
+    let l = c.loop-observation in
+    let taken = rw c.count.ensures at c.appear-listed.ensures in
+    let few = takes_few _ taken in (
+      omega (arith, few, l.invariant.0, length-append l.yielded (c.in-Some.observation ∷ [])),
+      c.appear-listed.auto.history ∙ l.invariant.1,
+      c.appear-listed.auto.list ∙ l.invariant.2,
+      takes_one_more c.header-time.result.time l.yielded c.in-Some.observation l.invariant.3 taken,
     )
+
+pub returns : goal.returns
+returns c =
+    let m = c.args.claimed.now in
+    let l = c.loop-observation in
+    let given = c.observations-observation-items.ensures in
+    let all = all_came l.yielded_by c.in-None.ensures.steps.0 ∙ c.into_iter-observation-iterator.ensures.into_iter_gives ∙ given.all in
+    let time = ap (λ h. h.time) c.header-time.ensures in
+    rw (ap₂ (λ t os. each (λ o. appears t o ∷ []) os) time all ∙ appearances_all m given.sized) at l.invariant.3

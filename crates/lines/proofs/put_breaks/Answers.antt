@@ -1,6 +1,5 @@
--- `lines::put_breaks` meets its contract. Assumes nothing.
+-- `lines::put_breaks` meets its contract: the list holds the breaks that are said to be in it. Assumes nothing.
 use mathlib.Core.Path.{sym, ◌∙◌}
-use Rattle.text.proofs.PutLaws.{puts_none}
 use Rattle.macm.specs.Read.{claimed_head}
 use Rattle.history.proofs.CallSteps.{list_holds}
 use Rattle.lines.proofs.put_breaks.Goals as goal
@@ -10,9 +9,4 @@ put_listed-requires c =
     let a = c.args in
     let e = c.claimed_breaks.ensures in
     let m = a.message.now in
-    rw (sym e.answer ∙ c.in-Listed.is, sym e.list) at (list_holds m a.history.now a.list.now (claimed_head m))
-
-pub returns-in-Refused : goal.returns-in-Refused
-returns-in-Refused c =
-    let e = c.claimed_breaks.ensures in
-    record { text = rw (sym e.answer ∙ c.in-Refused.is) (puts_none _ _); words = e.words; listed = e.list }
+    rw (sym e.answer ∙ c.in-Ok.is, sym e.list) at (list_holds m a.history.now a.list.now (claimed_head m))

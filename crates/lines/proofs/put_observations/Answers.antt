@@ -1,17 +1,14 @@
--- `lines::put_observations` meets its contract: before each turn the rows up to its index are put. Assumes nothing.
-use mathlib.Core.Path.{sym}
-use native.Mathlib.Omega.{arith}
-use native.Mathlib.Numerals.{add-one}
-use Rattle.text.proofs.PutLaws.{puts_none, puts_join}
-use Rattle.lines.specs.Rows.{rows_up_to}
+-- `lines::put_observations` meets its contract: once all observations came, the rows are those of the message. Assumes nothing.
+use mathlib.Core.Path.{ap, ap₂, ◌∙◌}
+use Rattle.text.specs.Put.{appended}
+use Rattle.macm.proofs.Iterates.{all_came}
+use Rattle.lines.proofs.RowSteps.{rows_of, rows_all}
 use Rattle.lines.proofs.put_observations.Goals as goal
 
-pub loop-index-init : goal.loop-index-init
-unfolding rows_up_to
-loop-index-init c = (omega arith, puts_none _ _)
-
-pub loop-index-preserved : goal.loop-index-preserved
-unfolding rows_up_to
-loop-index-preserved c =
-    let l = c.loop-index in
-    (omega arith, rw (add-one, sym c.observation_as-observed.ensures) (puts_join l.invariant.1 c.put_observed-next.ensures))
+pub returns : goal.returns
+returns c =
+    let l = c.loop-observation in
+    let head = c.args.head.now in
+    let given = c.observations-observation-items.ensures in
+    let all = all_came l.yielded_by c.in-None.ensures.steps.0 ∙ c.into_iter-observation-iterator.ensures.into_iter_gives ∙ given.all in
+    l.invariant ∙ ap (λ t. appended t c.args.text.now) (ap₂ (rows_of head) c.form-form.ensures all ∙ rows_all head c.args.claimed.now given.sized)

@@ -1,8 +1,8 @@
--- `lines::put_observations` meets its contract: before each turn the rows up to its index are put. Assumes nothing.
-use Prim.Native.Nat.{◌≤◌}
-use Rattle.text.specs.Put.{Puts}
-use Rattle.lines.specs.Rows.{rows_up_to}
+-- `lines::put_observations` meets its contract: before each turn the rows of the observations that came are put. Assumes nothing.
+use mathlib.Core.Path.{◌≡◌}
+use Rattle.text.specs.Put.{appended}
+use Rattle.lines.proofs.RowSteps.{rows_of}
 use Rattle.lines.proofs.put_observations.Given as goal
 
-abbrev pub invariant-loop-index : goal.invariant-loop-index
-invariant-loop-index l = (l.index ≤ l.count) × Puts l.initial.out l.at (rows_up_to l.index l.head l.form l.count l.message) l.next l.out
+abbrev pub invariant-loop-observation : goal.invariant-loop-observation
+invariant-loop-observation l = l.text ≡ appended (rows_of l.head l.form l.yielded) l.initial.text

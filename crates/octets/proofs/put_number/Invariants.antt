@@ -1,5 +1,4 @@
 -- `octets::put_number` meets its contract: the loop goes down from the last byte, and what it has yet to write is the bytes of what is left of the number. Assumes nothing.
-use Prim.Native.Nat.{◌≤◌}
 use mathlib.Core.Path.{◌≡◌}
 use mathlib.Core.List.{◌++◌}
 use lib.ListN.{length, drop}
@@ -7,7 +6,4 @@ use Rattle.octets.specs.Numbers.{bytes_of}
 use Rattle.octets.proofs.put_number.Given as goal
 
 abbrev pub invariant-loop-i : goal.invariant-loop-i
-invariant-loop-i l = (l.i ≤ length l.initial.s) × (bytes_of l.i l.y ++ drop l.i l.s ≡ bytes_of (length l.initial.s) l.x) × (length l.s ≡ length l.initial.s)
-
-abbrev pub decreases-loop-i : goal.decreases-loop-i
-decreases-loop-i l = l.i
+invariant-loop-i l = bytes_of l.i l.y ++ drop l.i l.s ≡ bytes_of (length l.initial.s) l.x

@@ -2,26 +2,26 @@
 use mathlib.Core.Bool.{true}
 use mathlib.Core.List.{[]}
 use mathlib.Core.Path.{refl, sym}
-use Rattle.stream.proofs.CallSteps.{unended, feed_allowed, allowed_fits, came_fits, finish_refused, finish_goes}
+use Rattle.stream.proofs.CallSteps.{checked_open, allowed_fits, came_fits, finish_refused, finish_goes}
 use Rattle.stream.proofs.finish.Goals as goal
 
-pub divide-counted-requires : goal.divide-counted-requires
-divide-counted-requires c =
-    (allowed_fits _ _ _ _ (feed_allowed _ _ _ _ (sym c.in-Open.ensures)), λ z. refl)
+pub divide_rest-counted-requires : goal.divide_rest-counted-requires
+divide_rest-counted-requires c =
+    allowed_fits _ _ _ _ (checked_open _ _ _ (sym c.in-Ok.ensures))
 
 pub conclude-requires : goal.conclude-requires
 conclude-requires c =
     let x = c.args in
-    let a = feed_allowed _ _ _ _ (sym c.in-Open.ensures) in
-    came_fits true (unended x.state) _ [] x.window.now x.output.now c.divide-counted.result.outcome _ _ _ a c.divide-counted.ensures.0 c.divide-counted.ensures.1
+    let a = checked_open _ _ _ (sym c.in-Ok.ensures) in
+    came_fits true x.state _ [] x.window.now x.output.now c.divide_rest-counted.result.outcome _ _ _ a c.divide_rest-counted.ensures.0 c.divide_rest-counted.ensures.1
 
-pub returns-in-Refused : goal.returns-in-Refused
-returns-in-Refused c =
+pub returns-in-Err : goal.returns-in-Err
+returns-in-Err c =
     let x = c.args in
-    finish_refused x.state x.window.now x.output.now _ _ (sym c.in-Refused.ensures) c.refused.ensures
+    finish_refused x.state x.window.now x.output.now _ _ (sym c.in-Err.ensures) refl
 
-pub returns-in-Open : goal.returns-in-Open
-returns-in-Open c =
+pub returns-in-Ok : goal.returns-in-Ok
+returns-in-Ok c =
     let x = c.args in
-    finish_goes x.state x.window.now x.output.now c.divide-counted.result.outcome _ _ _ _ _ (sym c.in-Open.ensures)
-    c.divide-counted.ensures.0 c.divide-counted.ensures.1 c.conclude.ensures.0 c.conclude.ensures.1
+    finish_goes x.state x.window.now x.output.now c.divide_rest-counted.result.outcome _ _ _ _ _ (sym c.in-Ok.ensures)
+    c.divide_rest-counted.ensures.0 c.divide_rest-counted.ensures.1 c.conclude.ensures.0 c.conclude.ensures.1

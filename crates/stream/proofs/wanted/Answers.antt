@@ -14,7 +14,7 @@ pub returns-in-Nothing : goal.returns-in-Nothing
 returns-in-Nothing c = absurd (omega (arith, need_is _ _ _ (sym c.in-Nothing.ensures) need_nothing))
 
 pub returns-in-AtLeast : goal.returns-in-AtLeast
-returns-in-AtLeast c = wanted_right _ _ _ _ (need_is _ _ _ (sym c.in-AtLeast.ensures) (need_at_least _)) c.requires c.if-piece-eq0.false c.least.ensures
+returns-in-AtLeast c = wanted_right _ _ _ _ (need_is _ _ _ (sym c.in-AtLeast.ensures) (need_at_least _)) c.requires c.min.ensures
 
 pub returns-in-Long : goal.returns-in-Long
-returns-in-Long c = wanted_right _ _ _ _ (need_is _ _ _ (sym c.in-Long.ensures) (need_long _)) c.requires c.if-piece-eq0.false c.least-in-Long.ensures
+returns-in-Long c = wanted_right _ _ _ _ (need_is _ _ _ (sym c.in-Long.ensures) (need_long _)) c.requires c.min-in-Long.ensures

@@ -1,6 +1,9 @@
--- What was read fits.
-use Rattle.std.proofs.Common.{◌≤◌, length}
+-- What was read fits, and what is left grows less.
+use Rattle.std.proofs.Common.{◌-◌, ◌≤◌, length}
 use Rattle.vectors.proofs.read_full.Given as goal
 
-abbrev pub invariant-loop : goal.invariant-loop
-invariant-loop g l = l.count ≤ length l.buffer
+abbrev pub invariant-loop-count : goal.invariant-loop-count
+invariant-loop-count g l = l.count ≤ length l.buffer
+
+abbrev pub decreases-loop-count : goal.decreases-loop-count
+decreases-loop-count g l = length l.initial.buffer - l.count

@@ -3,7 +3,7 @@ use Rattle.std.proofs.Common.{take, rules, sym, subst}
 use Rattle.std.specs.Io.KnownBytes.{Appends}
 use Rattle.report.proofs.Pieces.{appends_more}
 use Rattle.report.proofs.blocks.write_out.Goals as goal
-use Rattle.report.proofs.blocks.write_out.Goals.{in-Ok, in-Err+else-ne}
+use Rattle.report.proofs.blocks.write_out.Goals.{in-Ok, in-Err}
 
 pub loop-preserved : goal.loop-preserved
 loop-preserved g c = elim c.match-write.branch [
@@ -14,5 +14,5 @@ loop-preserved g c = elim c.match-write.branch [
         subst (λ n. Appends was is (take n c.args.text.now)) (sym w.put-is)
             (appends_more was (g.W.Write.contents c.loop.writer) is c.args.text.now c.loop.put w.in-Ok.count c.loop.invariant.1 w.in-Ok.ensures.bytes),
       )
-  | in-Err+else-ne w ↦ search rules
+  | in-Err w ↦ search rules
 ]
