@@ -76,11 +76,10 @@ fn print_recording<P: Printer>(
     let mut position = 0u64;
     let mut ended: Option<io::Result<()>> = None;
     for _ in 0..u64::MAX {
-        let bytes = pending.bytes();
-        match walk(ended.is_some(), bytes) {
+        match walk(ended.is_some(), pending.bytes()) {
             Walked::Message { gap, length, .. } => {
                 let start = position.wrapping_add(gap as u64);
-                printer.print(&mut text, start, &bytes[gap..gap + length]);
+                printer.print(&mut text, start, &pending.bytes()[gap..gap + length]);
                 position = start.wrapping_add(length as u64);
                 pending.pass(gap + length);
                 if text.at() > 65536 {
