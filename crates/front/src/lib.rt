@@ -27,7 +27,8 @@ fn counts(form: Form, bytes: &[u8]) -> Claim
     Claim::AtLeast(at + 1)
 }
 
-// What the first bytes claim to be. Only the form's places matter, so its own fields are zero.
+// What the first bytes claim to be. Only the form's places matter, so its own fields are zero. A form is read of a whole message elsewhere; here the bytes may
+// end inside the sync string.
 #[tactic(auto, unfolding(crate::specs::Claim::claim, crate::specs::Claim::claim_by))]
 pub fn claims(bytes: &[u8]) -> Claim
     ensures { result ≡ claim bytes.now }

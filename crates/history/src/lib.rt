@@ -41,7 +41,7 @@ pub struct Appearance {
     pub lock: u32,
 }
 
-// What a history has of a SID: whether it was seen, which is any word but 0, and its last time and lock count.
+// What a history has of a SID: whether it was seen, which is any word but 0, and its last time and lock count. Words as they are lent, so no Option.
 #[derive(Clone, Copy)]
 pub struct Last {
     pub seen: u64,
@@ -177,7 +177,7 @@ pub fn next_breaks(
     list_breaks(history, list, &claimed)
 }
 
-// The same of bytes that the division gave as a message (1 to 3, then 8): their checksum is not run again.
+// The same of bytes that the division gave as a message (1 to 3, then 8): their checksum is not run again. Two names, since a host calls the other.
 #[tactic(auto, unfolding(crate::specs::Calls::call_by, macm::specs::Read::claimed_head, macm::specs::Read::head_by, macm::specs::Claimed::claimed_by))]
 pub fn claimed_breaks(
     message: &[u8],

@@ -20,8 +20,8 @@ fn put_form(text: &mut Text, form: Form)
     ensures { text.new ≡ appended (form_text form) text.old }
 {
     match form {
-        Form::New { signal: _, tfom: _ } => text.put_all(b"v2 "),
-        Form::Old { version: _ } => text.put_all(b"v1 "),
+        Form::New { .. } => text.put_all(b"v2 "),
+        Form::Old { .. } => text.put_all(b"v1 "),
     }
 }
 
@@ -74,8 +74,8 @@ fn put_head(text: &mut Text, position: u64, header: Header)
     text.put_number(position, b' ');
     text.put_number(header.time as u64, b' ');
     match header.form {
-        Form::New { signal, tfom: _ } => text.put_count(b"v2 ", signal as u64, b' '),
-        Form::Old { version: _ } => text.put_all(b"v1 - "),
+        Form::New { signal, .. } => text.put_count(b"v2 ", signal as u64, b' '),
+        Form::Old { .. } => text.put_all(b"v1 - "),
     }
 }
 

@@ -40,7 +40,7 @@ pub fn checksum(s: &[u8]) -> Summed
 
 // ---- how a slice begins
 
-// How s begins, held against t.
+// How s begins, held against t. The library tells whether it begins with all of t, and has no word for a part of t.
 #[tactic(auto, using(crate::proofs::Walks::fitting))]
 pub fn fits(t: &[u8], s: &[u8]) -> Fit
     ensures { result ≡ fit t.now s.now }
@@ -64,7 +64,7 @@ pub fn starts(t: &[u8], s: &[u8]) -> bool
     s.starts_with(t)
 }
 
-// How many of the first bytes of s are those of t: s begins with that much of t, and with no more.
+// How many of the first bytes of s are those of t: s begins with that much of t, and with no more. No method of the library counts them.
 #[tactic(auto, using(crate::proofs::Walks::common_counts))]
 pub fn common_to(t: &[u8], s: &[u8]) -> usize
     ensures { (result ≡ common t.now s.now) × (result ≤ length t.now) }
@@ -79,7 +79,8 @@ pub fn common_to(t: &[u8], s: &[u8]) -> usize
 
 // ---- numbers, most significant byte first
 
-// The number that bytes stand for, as far as 64 bits hold it: the whole of it for eight bytes or fewer.
+// The number that bytes stand for, as far as 64 bits hold it: the whole of it for eight bytes or fewer. The library's from_be_bytes is for the widths of its
+// own types.
 #[tactic(auto, using(crate::proofs::Walks::numbering))]
 pub fn number_of(s: &[u8]) -> u64
     ensures { result ≡ number s.now % 2 ^ 64 }
@@ -91,7 +92,7 @@ pub fn number_of(s: &[u8]) -> u64
     x
 }
 
-// The bytes of x, as many as s has: the lowest ones, where x needs more.
+// The bytes of x, as many as s has: the lowest ones, where x needs more. A copy of to_be_bytes would need a bound on that.
 #[tactic(auto, using(crate::proofs::Walks::writing))]
 pub fn put_number(s: &mut [u8], x: u64)
     ensures { s.new ≡ bytes_of (length s.old) x }
@@ -119,7 +120,7 @@ fn half_of(width: usize) -> u64
     1 << (width.clamp(1, 64) - 1)
 }
 
-// The number that the bits of a field of `width` bits stand for; a width above 64 counts as 64.
+// The number that the bits of a field of `width` bits stand for; a width above 64 counts as 64. The library casts its own types' widths alone.
 pub fn signed_in(raw: u64, width: usize) -> i64
     ensures { result ≡ signed_of (half (min width 64)) raw }
 {

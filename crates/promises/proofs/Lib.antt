@@ -50,3 +50,5 @@ pub mod Appearing
 pub mod HistoryRuns
 pub mod Histories
 pub mod WrongHistories
+pub mod HeaderLengths
+pub mod ChecksumPlaces

@@ -1,4 +1,5 @@
 // Blocks in and out: one read behind what was kept, and all of a text written.
+// How often signals interrupt has no bound that anything states, and every loop has to end: the turns are counted up to a number that no run reaches.
 ghost use Rattle.std.specs.Prelude.{◌≡◌, ◌+◌, ◌<◌, ◌≤◌, ℕ, length, take, drop, IfOk, OnOk, OnErr};
 ghost use Rattle.std.specs.Io.KnownBytes.{Keeps, Appends, Consumes, IsAtEnd};
 

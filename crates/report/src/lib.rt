@@ -76,26 +76,22 @@ fn print_recording<P: Printer>(
     let mut position = 0u64;
     let mut ended: Option<io::Result<()>> = None;
     for _ in 0..u64::MAX {
-        let bytes = pending.bytes();
-        match walk(ended.is_some(), bytes) {
-            Walked::Message {
-                gap: at,
-                length,
-                ..
-            } => {
-                let start = position.wrapping_add(at as u64);
-                printer.print(&mut text, start, &bytes[at..at + length]);
+        match walk(ended.is_some(), pending.bytes()) {
+            Walked::Message { gap, length, .. } => {
+                let start = position.wrapping_add(gap as u64);
+                printer.print(&mut text, start, &pending.bytes()[gap..gap + length]);
                 position = start.wrapping_add(length as u64);
-                pending.pass(at + length);
+                pending.pass(gap + length);
                 if text.at() > 65536 {
-                    if let Err(error) = write_out(rt, &mut text) {
-                        return ended.unwrap_or(Ok(())).and(Err(error));
+                    let written = write_out(rt, &mut text);
+                    if written.is_err() {
+                        return ended.unwrap_or(Ok(())).and(written);
                     }
                 }
             }
-            Walked::Unsettled { gap: at } => {
-                position = position.wrapping_add(at as u64);
-                pending.pass(at);
+            Walked::Unsettled { gap } => {
+                position = position.wrapping_add(gap as u64);
+                pending.pass(gap);
                 if let Some(outcome) = ended {
                     printer.end(&mut text, position);
                     return outcome.and(write_out(rt, &mut text));
@@ -105,7 +101,7 @@ fn print_recording<P: Printer>(
             }
         }
     }
-    Ok(())
+    ended.unwrap_or(Ok(()))
 }
 
 // ---- the programs over messages

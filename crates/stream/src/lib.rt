@@ -1,5 +1,5 @@
 // The stream reader: pieces of a recording go in, one message a call comes out. The state goes in by value and comes back; the window, which holds
-// the bytes that a cut left over, and the output are lent.
+// the bytes that a cut left over, and the output are lent, each by itself, as C lends them.
 #![tactic(auto)]
 
 ghost use Rattle.std.specs.Prelude.{◌≡◌, true, false, [], ◌++◌, ◌+◌, ◌-◌, ◌^◌, ◌<◌, ◌≤◌, length, take, drop, replicate};
@@ -41,7 +41,7 @@ pub struct Reply {
 }
 
 // What a call comes to: a message with its length, or none; then the gap bytes, the bytes of the piece taken, and the bytes held at the front of
-// the window after it.
+// the window after it. The gap is the answer's with a message and the state's without one, so the cases are whole.
 #[derive(Clone, Copy)]
 enum Outcome {
     Message {
@@ -315,7 +315,8 @@ fn divide_rest(state: State, window: &mut [u8], output: &mut [u8]) -> Counted
 
 // ---- replies
 
-// What the call took and summed is added to the state's counts; after a message no gap stands before the bytes held.
+// What the call took and summed is added to the state's counts; after a message no gap stands before the bytes held. `ended` is a word of the state, and says
+// what no message means.
 fn reply_of(state: State, ended: bool, counted: Counted) -> Reply
     requires { (state.summed + counted.summed < 2 ^ 64) × ((reply_after state ended counted).state.total < 2 ^ 64) }
     ensures { result ≡ reply_after state ended counted }
@@ -385,7 +386,7 @@ pub fn feed(state: State, piece: &[u8], window: &mut [u8], output: &mut [u8]) ->
 }
 
 // The end of the stream: the remaining messages one a call, then the end, the same each time after (8, 9). Its checks and its walk are not those of a
-// feed, and a body for both would need a flag to tell them apart.
+// feed, and C calls the two by name.
 pub fn finish(state: State, window: &mut [u8], output: &mut [u8]) -> Reply
     ensures { Leaves (finish_call state window.old output.old) result window.new output.new }
 {

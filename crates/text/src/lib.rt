@@ -106,7 +106,7 @@ impl<'a> Text<'a> {
         Text { buffer, at: 0 }
     }
 
-    // So many bytes stand there already.
+    // So many bytes stand there already. Any place is one: past the end of the buffer nothing is put.
     pub fn behind(buffer: &'a mut [u8], at: usize) -> Text<'a>
         ensures { result ≡ record { buffer = buffer.entry; at = at } }
     {
@@ -224,7 +224,7 @@ impl<'a> Text<'a> {
         self.at = at + 1;
     }
 
-    // All eight are one store.
+    // All eight are one store, so this is not four pairs.
     fn set_packed(&mut self, n: u64)
         requires { (self.old.at + 8 ≤ length self.old.buffer.now) × (n < 100000000) }
         ensures { (self.new.at ≡ self.old.at + 8) × (self.new ≡ appended (digits 10 8 n) self.old) }
@@ -245,7 +245,8 @@ impl<'a> Text<'a> {
         self.at = at + 2;
     }
 
-    // A number with as many digits as it needs: one or two.
+    // A number with as many digits as it needs: one or two. Of those below each has the one before it as its first step, and room for its own digits: a loop
+    // over pairs would divide where these know the divisor.
     #[tactic(auto, using(crate::proofs::Split::decimal_digit, crate::proofs::Split::decimal_exact))]
     fn spell_pair(&mut self, n: u32)
         requires { (self.old.at + 2 ≤ length self.old.buffer.now) × (n < 100) }
