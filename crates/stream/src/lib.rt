@@ -210,7 +210,8 @@ fn in_place(gap: usize, taken: usize, piece: &[u8], window: &mut [u8], output: &
     }
 }
 
-// Turn after turn over the held bytes, until a message is settled, all of the piece is taken, or no byte is held and the piece can be divided.
+// Turn after turn over the held bytes, until a message is settled, all of the piece is taken, or no byte is held and the piece can be divided. How far a
+// turn comes is what the walk says and the piece has, so the loop is no `for`.
 fn turns(
     mut held: usize,
     mut gap: usize,
@@ -221,9 +222,7 @@ fn turns(
     requires { Begun held gap piece.now window.old output.old }
     ensures { Divided false held gap piece.now window.old output.old result window.new output.new }
 {
-    let mut taken = 0;
-    let mut summed = 0;
-    // How far a turn comes is what the walk says and the piece has, so this is no `for`.
+    let (mut taken, mut summed) = (0, 0);
     loop {
         let passage = division::walk(false, &window[..held]);
         summed += passage.summed;
@@ -246,11 +245,9 @@ fn turns(
                 held -= at;
                 gap += at;
                 if held == 0 {
-                    let rest = in_place(gap, taken, piece, window, output);
-                    return Counted {
-                        outcome: rest.outcome,
-                        summed: summed + rest.summed,
-                    };
+                    let mut rest = in_place(gap, taken, piece, window, output);
+                    rest.summed = summed + rest.summed;
+                    return rest;
                 }
                 let more = pull(at, held, taken, piece, window);
                 if more == 0 {

@@ -69,6 +69,7 @@ fn put_check(text: &mut Text, message: &[u8]) {
 fn put_reply(text: &mut Text, reply: Reply, output: &[u8]) {
     match reply.answer {
         Ok(Answer::NeedsMore) => text.put_all(b"needs more\n"),
+        // `front` asks for no bound; a slice would need one proved of a feed's answer.
         Ok(Answer::Message { length, gap, .. }) => {
             put_given(text, gap, gap, text::front(output, length as usize))
         }

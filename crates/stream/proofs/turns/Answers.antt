@@ -50,8 +50,8 @@ in_place-rest-requires c =
     let x = c.args in
     turn_place_fits false x.held x.gap x.window.now x.output.now x.piece.now loop.held loop.gap loop.taken loop.window loop.output loop.invariant.0 c.requires _ (ap (λ r. r.walked) c.walk-passage.ensures) _ c.in-Unsettled.is
 
-pub overflow_add-result : goal.overflow_add-result
-overflow_add-result c =
+pub overflow_add-rest : goal.overflow_add-rest
+overflow_add-rest c =
     let loop = c.loop-at in
     let x = c.args in
     (turn_place_adds false x.held x.gap x.window.now x.output.now x.piece.now loop.held loop.gap loop.taken loop.window loop.output loop.invariant.0 c.requires (never x.piece.now) loop.summed loop.invariant.1 _ c.walk-passage.ensures _ c.in-Unsettled.is _ _ c.in_place-rest.ensures.1)
