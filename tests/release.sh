@@ -10,6 +10,9 @@ fail() {
 }
 . tools/machine.sh
 ./cablesound build 2>target/build.log || fail "build says: $(cat target/build.log)"
+# A board without a C library has to give the archive this alone.
+needed=$(nm -u build/libcablesound.a | sed -n 's/^ *U //p' | sort -u | tr '\n' ' ')
+[ "$needed" = 'memset ' ] || fail "the archive needs of its host: $needed"
 work=$(mktemp -d) || exit 2
 trap 'rm -rf "$work"' EXIT
 release="$work/a copy"

@@ -30,3 +30,6 @@ raw_in_determined κs a z z' w w' p q = search both
 
 pub holds_signed_determined : Determined contracts.holds_signed.ended octets.holds_signed.Reads.Learnt
 holds_signed_determined κs a z z' w w' p q = search both
+
+pub copy_determined : Determined contracts.copy.ended octets.copy.Reads.Learnt
+copy_determined κs a z z' w w' p q = search both

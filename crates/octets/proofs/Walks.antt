@@ -7,12 +7,12 @@ use native.Mathlib.Numerals.{add-one}
 use borrow.Author.Tests.{eq-eqb, ne_eqb}
 use lib.Bits.{bit_xor}
 use lib.ListN.{length, get_or, set, take, drop, length-set, drop_of_length-le}
-use lib.Seq.{take-suc, take_all, drop-cons, get_or-set_same, drop-set-lt, append_snoc}
+use lib.Seq.{take-add, take-suc, take_all, drop-cons, get_or-take, get_or-drop, get_or-set_same, drop-set-lt, append_snoc}
 use Rattle.octets.specs.declared.Fit.TheVariants.{Whole, Part, Bad}
 use Rattle.octets.specs.Begins.{common, fit}
 use Rattle.octets.specs.Checksum.{checksum_from, checksum_of}
 use Rattle.octets.specs.Numbers.{number_from, number, bytes_of}
-use Rattle.octets.proofs.ExclusiveOr.{checksum_last}
+use Rattle.octets.proofs.ExclusiveOr.{checksum_append, checksum_last}
 use Rattle.octets.proofs.Numbers.{number_from_append}
 
 -- ---- the checksum of the bytes up to index i
@@ -23,6 +23,14 @@ module _ (s : List ℕ) where
 
   pub sum_next : (i : ℕ) → i < length s → checksum_of (take (i + 1) s) ≡ bit_xor (checksum_of (take i s)) (get_or s i 0)
   sum_next i l = rw add-one (ap checksum_of (take-suc s i 0 l) ∙ checksum_last 0 (take i s) (get_or s i 0))
+
+  -- by k bytes at once
+  pub sum_part : (i k : ℕ) → checksum_of (take (i + k) s) ≡ bit_xor (checksum_of (take i s)) (checksum_of (take k (drop i s)))
+  sum_part i k = ap checksum_of (take-add i k s) ∙ checksum_append (take i s) (take k (drop i s))
+
+  -- a byte of those that a block left
+  pub sum_left : (from i n : ℕ) → from + i < length s → i < n → checksum_of (take (from + i + 1) s) ≡ bit_xor (checksum_of (take (from + i) s)) (get_or (take n (drop from s)) i 0)
+  sum_left from i n l k = sum_next (from + i) l ∙ ap (bit_xor (checksum_of (take (from + i) s))) (sym (get_or-take n (drop from s) i 0 k ∙ get_or-drop from s i 0))
 
 pub ruleset summing = (sum_none, sum_next, take_all)
 

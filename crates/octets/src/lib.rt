@@ -1,12 +1,13 @@
-// Bytes: the exclusive-or checksum, numbers most significant byte first, two's complement.
+// Bytes: the exclusive-or checksum, numbers most significant byte first, two's complement, copies.
 // Every function here takes all inputs; what each answers is a definition of specs/.
 #![tactic(auto)]
 
-ghost use Rattle.std.specs.Prelude.{◌≡◌, ◌<◌, ◌≤◌, ◌%◌, ◌^◌, min, ltb, length};
+ghost use Rattle.std.specs.Prelude.{◌≡◌, ◌<◌, ◌≤◌, ◌%◌, ◌^◌, min, ltb, length, take};
 ghost use Rattle.std.specs.Int.Signed.{mag};
 ghost use Rattle.octets.specs.Begins.{common, fit, begins};
 ghost use Rattle.octets.specs.Checksum.{summed_of};
 ghost use Rattle.octets.specs.Numbers.{number, bytes_of};
+ghost use Rattle.octets.specs.Parts.{over};
 ghost use Rattle.octets.specs.Signed.{half, signed_of, raw_of};
 
 // How a slice begins: with all of a string, with a part of it and nothing more yet, or with a byte that contradicts it.
@@ -24,14 +25,38 @@ pub struct Summed {
     pub count: usize,
 }
 
-// The exclusive or of every byte, each counted as it goes through.
+// Of a block of 256 bytes. Its length is known and the loop has no way out, so that it is done in vectors with no test between them.
+#[tactic(auto, using(crate::proofs::Walks::summing))]
+fn block_checksum(block: &[u8]) -> Summed
+    requires { length block.now ≡ 256 }
+    ensures { result ≡ summed_of block.now }
+{
+    let mut sum: u8 = 0;
+    let mut passed = 0;
+    for i in 0..256 {
+        sum ^= block[i];
+        passed += 1;
+    }
+    Summed {
+        value: sum,
+        count: passed,
+    }
+}
+
+// The exclusive or of every byte, each counted as it goes through: of whole blocks, then of the bytes that are left.
 #[tactic(auto, using(crate::proofs::Walks::summing))]
 pub fn checksum(s: &[u8]) -> Summed
     ensures { result ≡ summed_of s.now }
 {
     let mut value: u8 = 0;
     let mut count = 0;
-    for byte in s {
+    // A block says how many bytes it counted, and what is left begins there: so this is no `for`.
+    while 256 <= s.len() - count {
+        let block = block_checksum(&s[count..count + 256]);
+        value ^= block.value;
+        count += block.count;
+    }
+    for byte in &s[count..] {
         value ^= *byte;
         count += 1;
     }
@@ -56,12 +81,11 @@ pub fn fits(t: &[u8], s: &[u8]) -> Fit
     Fit::Whole
 }
 
-// Whether s begins with all of t.
-#[tactic(auto, using(crate::proofs::Begins::begins_is))]
+// Whether s begins with all of t. The library's starts_with holds all of t against s, where most bytes are no message from the first on.
 pub fn starts(t: &[u8], s: &[u8]) -> bool
     ensures { result ≡ begins t.now s.now }
 {
-    s.starts_with(t)
+    matches!(fits(t, s), Fit::Whole)
 }
 
 // How many of the first bytes of s are those of t: s begins with that much of t, and with no more. No method of the library counts them.
@@ -161,4 +185,17 @@ pub fn holds_signed(z: i64, width: usize) -> bool
     ensures { result ≡ ltb (mag z) (half width) }
 {
     magnitude(z) < half_of(width)
+}
+
+// ---- copies
+
+// As much of `from` as `to` has room for, at the front of `to`. The number is known before the loop, so that it is done in vectors; the library's
+// copy_from_slice would have the archive for C call memmove, which its host may not have.
+pub fn copy(from: &[u8], to: &mut [u8])
+    ensures { to.new ≡ over (take (length to.old) from.now) to.old }
+{
+    let n = from.len().min(to.len());
+    for i in 0..n {
+        to[i] = from[i];
+    }
 }

@@ -248,7 +248,8 @@ pub bytes_ask_nothing :
     × AsksNothing octets_contracts.signed_in.ended octets.signed_in.Reads.Asked
     × AsksNothing octets_contracts.raw_in.ended octets.raw_in.Reads.Asked
     × AsksNothing octets_contracts.holds_signed.ended octets.holds_signed.Reads.Asked
-bytes_ask_nothing = ((λ κs a. tt), (λ κs a. tt), (λ κs a. tt), (λ κs a. tt), (λ κs a. tt), (λ κs a. tt), (λ κs a. tt), (λ κs a. tt), (λ κs a. tt))
+    × AsksNothing octets_contracts.copy.ended octets.copy.Reads.Asked
+bytes_ask_nothing = ((λ κs a. tt), (λ κs a. tt), (λ κs a. tt), (λ κs a. tt), (λ κs a. tt), (λ κs a. tt), (λ κs a. tt), (λ κs a. tt), (λ κs a. tt), (λ κs a. tt))
 
 pub fields_ask_nothing :
     AsksNothing bits_contracts.Field.read.ended bits.Field.read.Reads.Asked

@@ -3,9 +3,10 @@ use Prim.Native.Nat.{ℕ, ◌+◌, ◌-◌, ◌≤◌, ◌<◌}
 use mathlib.Core.Path.{◌≡◌, sym, ap, ◌∙◌}
 use mathlib.Core.List.{List, [], ◌++◌, append_assoc, append-nil}
 use native.Mathlib.Nat.{zero-add}
+use native.Mathlib.Numerals.{add-one}
 use native.Mathlib.Omega.{arith}
-use lib.ListN.{length, take, drop, replicate, length-append, length-drop, drop_of_length-le}
-use lib.Seq.{paste, take-paste, length-paste, length-take-le, take-length, take_all, take-take, take-append-le, drop-drop}
+use lib.ListN.{length, get_or, set, take, drop, replicate, length-append, length-drop, drop_of_length-le}
+use lib.Seq.{paste, paste-suc, take-paste, length-paste, length_paste_head, length-take-le, take-length, take_all, take-take, take-append-le, drop-drop, get_or-append-add, get_or-drop}
 use Rattle.octets.specs.Parts.{over}
 use Rattle.octets.proofs.Parts.{drop_take}
 use Rattle.front.specs.Look.{need}
@@ -30,6 +31,20 @@ pub cleared : (b w : List ℕ) (from : ℕ) → from ≤ length b → w ≡ repl
 cleared b w from l e =
     let z : w ≡ replicate (length b - from) 0 = e ∙ ap (λ r. replicate (length r) 0) (tail b from) ∙ ap (λ n. replicate n 0) (length-drop from b) in
     ap (λ r. take from b ++ (w ++ r)) (nothing_behind b from) ∙ ap (λ r. take from b ++ r) (append-nil w ∙ z)
+
+-- ---- a shift reads each byte before it is written over
+shift_read : (d : List ℕ) (from i : ℕ) → from + i < length d → get_or (paste d 0 (drop from d) i) (from + i) 0 ≡ get_or (drop from d) i 0
+shift_read d from i l =
+    let h : length (take 0 d ++ take i (drop from d)) ≡ i = length_paste_head d 0 (drop from d) i (omega arith) (omega (arith, length-drop from d)) ∙ zero-add i in
+    let e : from + i ≡ length (take 0 d ++ take i (drop from d)) + from = omega arith in
+    let z : 0 + i + from ≡ from + i = omega arith in
+    rw e (get_or-append-add (take 0 d ++ take i (drop from d)) (drop (0 + i) d) from 0 ∙ get_or-drop (0 + i) d from 0 ∙ rw (z, get_or-drop))
+
+pub shift_turn : (w₀ w : List ℕ) (from n i : ℕ) → from + n ≤ length w₀ → i < n → w ≡ paste w₀ 0 (drop from w₀) i → set w i (get_or w (from + i) 0) ≡ paste w₀ 0 (drop from w₀) (i + 1)
+shift_turn w₀ w from n i r l e =
+    rw (e, shift_read w₀ from i (omega arith), add-one)
+    (ap (λ j. set (paste w₀ 0 (drop from w₀) i) j (get_or (drop from w₀) i 0)) (sym (zero-add i))
+    ∙ paste-suc w₀ 0 (drop from w₀) i 0 (omega arith) (omega (arith, length-drop from w₀)))
 
 -- ---- bytes shifted to the front
 module _ (from n : ℕ) (w w₁ : List ℕ) (fits : from + n ≤ length w) (e : w₁ ≡ paste w 0 (drop from w) n) where

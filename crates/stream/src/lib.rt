@@ -114,16 +114,18 @@ fn put(bytes: &[u8], buffer: &mut [u8])
     requires { length bytes.now ≤ length buffer.old }
     ensures { buffer.new ≡ over bytes.now buffer.old }
 {
-    buffer[..bytes.len()].copy_from_slice(bytes);
+    octets::copy(bytes, buffer);
 }
 
-// The n bytes from index `from` on, to the front of the window. Where they stand there, no byte is touched.
+// The n bytes from index `from` on, to the front of the window. Where they stand there, no byte is touched. A loop for the reason that `octets::copy` is one.
 fn shift(window: &mut [u8], from: usize, n: usize)
     requires { from + n ≤ length window.old }
     ensures { window.new ≡ paste window.old 0 (drop from window.old) n }
 {
     if from != 0 {
-        window.copy_within(from..from + n, 0);
+        for i in 0..n {
+            window[i] = window[from + i];
+        }
     }
 }
 
