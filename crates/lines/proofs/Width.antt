@@ -23,7 +23,7 @@ signal_width : (f : Form) → length (signal_text f) ≤ 24
 signal_width (New signal tfom) = omega (arith, length-append (word "v2 ") (number_text signal space), number_width signal space)
 signal_width (Old version) = omega arith
 
-head_width : (position : ℕ) (h : Header) → length (head_text position h) ≤ 80
+pub head_width : (position : ℕ) (h : Header) → length (head_text position h) ≤ 80
 head_width position h =
     let p = number_text position space in
     let t = number_text h.time space in
