@@ -98,7 +98,7 @@ versions() {
 look() {
     awk -F '|' -v crate="$1" -v log_file="$2" '
         BEGIN {
-            shape = "that can be named from here|is not in scope|has no field|cannot be parsed|the two types are `(lib[.]IntN[.]ℤ|Prim[.]Native[.]Nat[.]ℕ)`"
+            shape = "that can be named from here|is not in scope|has no field|cannot be parsed|(the two types are|expected type) `(lib[.]IntN[.]ℤ|Prim[.]Native[.]Nat[.]ℕ)`"
             while ((getline line < log_file) > 0) {
                 place = law = line
                 if (line ~ /^fn [^ ]+: no proof: .*`search` did not prove `/) {
